@@ -1,5 +1,5 @@
 -- Lemmas that the goals of several functions use.
-use Rattle.std.proofs.Common.{◌≡◌, ℤ, List, length, map, refl, arith}
+use Rattle.std.proofs.Common.{◌≡◌, ◌≤◌, ℤ, List, length, map, refl, arith}
 use Rattle.std.specs.List.{sum_by}
 use Rattle.std.specs.Ordering.{int_eq}
 use Rattle.std.specs.Cmp.Lexicographic.{pointwise}
@@ -27,3 +27,9 @@ pub numbers_match : (xs ys : List ℤ) → pointwise atom_match (map number xs) 
 numbers_match xs ys = maps_match number number int_eq (λ _ _. refl) xs ys
 
 pub ruleset match_rules = (numbers_match)
+
+-- as many numbers as their weight
+pub few_numbers : (xs : List ℤ) → sum_by atom_weight (map number xs) ≤ 4194304 → length (map number xs) ≤ 4194304
+few_numbers xs h = omega (arith, numbers_weight xs, length-map xs number)
+
+pub ruleset few_rules = (few_numbers)

@@ -1,5 +1,5 @@
 // A noun and its storage.
-ghost use Rattle.std.specs.Prelude.{◌≡◌, ◌≤◌, ◌<◌, ◌==◌, [], ◌∷◌, length, IfOk, IfErr, IsOk};
+ghost use Rattle.std.specs.Prelude.{◌≡◌, ◌≤◌, ◌<◌, ◌==◌, ◌+◌, ◌*◌, [], ◌∷◌, length, map, take, drop, IfOk, IfErr, IsOk};
 ghost use Rattle.std.specs.List.{sum_by};
 ghost use Rattle.std.specs.Cmp.Lexicographic.{pointwise};
 ghost use Rattle.j_definitions.specs.Array.{number, product, tally, weight, level, atom_weight, atom_array, IsNoun, IsWithin, arrays_match};
@@ -44,6 +44,15 @@ pub enum Atoms {
 }
 
 pub const WEIGHT_LIMIT: usize = 4_194_304;
+
+// The atoms of item i, where each has that many.
+fn run_of(numbers: &[i64], i: usize, size: usize) -> &[i64]
+    requires { (i + 1) * size ≤ length numbers.now }
+    ensures { result.now ≡ take size (drop (i * size) numbers.now) }
+{
+    let start = i * size;
+    &numbers[start..start + size]
+}
 
 impl Model for Noun {
     ghost use Rattle.j_definitions.specs.Array.{Array};
@@ -112,6 +121,16 @@ impl Noun {
         }
     }
 
+    /// The axis lengths, lent: none for an atom.
+    pub fn axes(&self) -> &[usize]
+        ensures { result.now ≡ self.now.shape }
+    {
+        match &self.held {
+            Held::Number(_) => &[],
+            Held::Shared(block) => block.shape.axes(),
+        }
+    }
+
     /// The number of items.
     pub fn tally(&self) -> usize
         ensures { result ≡ tally self.now.shape }
@@ -154,8 +173,10 @@ impl Noun {
     }
 
     /// The atoms in order.
+    #[tactic(auto, using(crate::proofs::Rules::few_rules))]
     pub fn view(&self) -> View<'_>
         ensures atoms { viewed result ≡ self.now.atoms }
+        ensures few { length (viewed result) ≤ 4194304 }
         ensures kind { kind_viewed result ≡ self.now.kind }
         ensures noun { IsNoun self.now }
     {
@@ -183,16 +204,38 @@ impl Noun {
         }
     }
 
+    /// The order of two items, which are compared atom by atom.
+    pub fn order_items(&self, i: usize, j: usize) -> Ordering
+        requires first { i < tally self.now.shape }
+        requires second { j < tally self.now.shape }
+        ensures { result ≡ items_cmp self.now i j }
+    {
+        let numbers = self.numbers();
+        let size = numbers.len() / self.tally();
+        run_of(numbers, i, size).cmp(run_of(numbers, j, size))
+    }
+
+    // The atoms, where they are whole numbers.
+    fn numbers(&self) -> &[i64]
+        ensures atoms { map number result.now ≡ self.now.atoms }
+        ensures noun { IsNoun self.now }
+    {
+        match &self.held {
+            Held::Number(n) => slice::from_ref(n),
+            Held::Shared(block) => match &block.atoms {
+                Atoms::Wholes(numbers) => numbers,
+            },
+        }
+    }
+
     /// Whether the shapes and the atoms are equal.
     #[tactic(auto, using(crate::proofs::Rules::match_rules))]
     pub fn matches(&self, other: &Noun) -> bool
         ensures { result ≡ arrays_match self.now other.now }
     {
-        if self.shape().axes() != other.shape().axes() {
+        if self.axes() != other.axes() {
             return false;
         }
-        let View::Wholes(x) = self.view();
-        let View::Wholes(y) = other.view();
-        x == y
+        self.numbers() == other.numbers()
     }
 }

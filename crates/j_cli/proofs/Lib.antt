@@ -1,0 +1,7 @@
+pub mod Known
+pub mod Parts
+pub mod Sequence
+pub mod FirstLine
+pub mod Executing
+pub mod Sofar
+pub mod Batches

@@ -1,0 +1,52 @@
+use Rattle.std.proofs.Common.{refl}
+use Rattle.std.specs.Fmt.{digits}
+use Rattle.j_cli.specs.Run.{next}
+use Rattle.j_cli.proofs.rows.worked_rows.Goals as goal
+
+pub returns-clause-sum_with_a_list : goal.returns-clause-sum_with_a_list
+unfolding next digits
+returns-clause-sum_with_a_list c = refl
+
+pub returns-clause-unlike_lengths : goal.returns-clause-unlike_lengths
+unfolding next digits
+returns-clause-unlike_lengths c = refl
+
+pub returns-clause-sum_too_large : goal.returns-clause-sum_too_large
+unfolding next digits
+returns-clause-sum_too_large c = refl
+
+pub returns-clause-blank_lines : goal.returns-clause-blank_lines
+unfolding next digits
+returns-clause-blank_lines c = refl
+
+pub returns-clause-carriage_return : goal.returns-clause-carriage_return
+unfolding next digits
+returns-clause-carriage_return c = refl
+
+pub returns-clause-number_too_large : goal.returns-clause-number_too_large
+unfolding next digits
+returns-clause-number_too_large c = refl
+
+pub returns-clause-no_line_feed : goal.returns-clause-no_line_feed
+unfolding next digits
+returns-clause-no_line_feed c = refl
+
+pub returns-clause-right_to_left : goal.returns-clause-right_to_left
+unfolding next digits
+returns-clause-right_to_left c = refl
+
+pub returns-clause-misspelled : goal.returns-clause-misspelled
+unfolding next digits
+returns-clause-misspelled c = refl
+
+pub returns-clause-least_number : goal.returns-clause-least_number
+unfolding next digits
+returns-clause-least_number c = refl
+
+pub returns-clause-least_number_negated : goal.returns-clause-least_number_negated
+unfolding next digits
+returns-clause-least_number_negated c = refl
+
+pub returns-clause-last_carriage_return : goal.returns-clause-last_carriage_return
+unfolding next digits
+returns-clause-last_carriage_return c = refl

@@ -1,0 +1,6 @@
+pub mod Report
+pub mod Run
+pub mod Answer
+pub mod Halts
+pub mod Top
+pub mod Rows

@@ -1,0 +1,72 @@
+-- What a run of lines shows.
+use Rattle.std.specs.Prelude.{ℕ, List, [], ◌∷◌, ◌++◌, Result, Ok, Err}
+use Rattle.std.specs.Str.Lines.{lines}
+use Rattle.j_definitions.specs.Array.{Array}
+use Rattle.j_definitions.specs.declared.Fault.{Fault}
+use Rattle.j_eval.specs.State.{State, Outcome, Gave, Erred, Spent}
+use Rattle.j_eval.specs.Reading.{reading}
+use Rattle.j_eval.specs.Meaning.{top}
+use Rattle.j_eval.specs.declared.prepared.Item.{Item}
+use Rattle.j_cli.specs.Report.{report}
+
+-- the run goes on, an error has stopped it, or its steps are spent
+pub data End : Type 0 where
+  going : End
+  stopped : End
+  spent : End
+
+-- the steps counted, and whether the run goes on
+pub record RunState : Type 0 where
+  pub steps : ℕ
+  pub end : End
+
+-- what one line makes of a run, and the piece that it shows
+pub record Turn : Type 0 where
+  pub state : RunState
+  pub piece : List ℕ
+
+-- most steps
+abbrev pub budget : ℕ
+budget = 100000000
+
+-- the state in which a top line begins
+abbrev pub opening : ℕ → State
+opening steps = record { steps = steps; budget = budget; shown = [] }
+
+-- what was shown, and then the report of an error
+abbrev pub turn_of : List ℕ → Outcome Array → Turn
+turn_of line (Gave y s) = record { state = record { steps = s.steps; end = going }; piece = s.shown }
+turn_of line (Erred f s) = record { state = record { steps = s.steps; end = stopped }; piece = s.shown ++ report f line }
+turn_of line (Spent s) = record { state = record { steps = s.steps; end = spent }; piece = s.shown }
+
+-- a line in a run that goes on; one without words does nothing
+abbrev pub executed : ℕ → List ℕ → Result (List Item) Fault → Turn
+executed steps line (Err f) = record { state = record { steps = steps; end = stopped }; piece = report f line }
+executed steps line (Ok []) = record { state = record { steps = steps; end = going }; piece = [] }
+executed steps line (Ok (i ∷ items)) = turn_of line (top (i ∷ items) (opening steps))
+
+abbrev pub turn_at : End → ℕ → List ℕ → Turn
+turn_at going steps line = executed steps line (reading line)
+turn_at stopped steps line = record { state = record { steps = steps; end = stopped }; piece = [] }
+turn_at spent steps line = record { state = record { steps = steps; end = spent }; piece = [] }
+
+-- One more line. A run that has ended stays as it is and shows nothing.
+unfoldable pub next : RunState → List ℕ → Turn
+next run line = turn_at run.end run.steps line
+
+-- the run after these lines
+abbrev pub run_after : RunState → List (List ℕ) → RunState
+run_after run [] = run
+run_after run (line ∷ rest) = run_after (next run line).state rest
+
+-- the pieces that these lines show, joined
+abbrev pub pieces : RunState → List (List ℕ) → List ℕ
+pieces run [] = []
+pieces run (line ∷ rest) = (next run line).piece ++ pieces (next run line).state rest
+
+abbrev pub start : RunState
+start = record { steps = 0; end = going }
+
+-- The lines of a text: a line ends before a line feed, and a carriage return directly before that isn't part of it; what stands after the last line feed is a line if it has a byte.
+abbrev pub lines_of : List ℕ → List (List ℕ)
+lines_of text = lines text

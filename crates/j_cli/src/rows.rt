@@ -1,0 +1,27 @@
+// Rows worked out by hand.
+ghost use Rattle.std.specs.Prelude.{◌≡◌, ◌++◌, ◌∷◌, [], codes};
+ghost use Rattle.j_cli.specs.Rows.{run_on};
+
+/// Laws: rows worked out by hand.
+pub fn worked_rows()
+    ensures sum_with_a_list { run_on (codes "1 2 3 + 10" ++ 10 ∷ []) ≡ record { bytes = codes "11 12 13" ++ 10 ∷ []; status = 0 } }
+    ensures unlike_lengths { run_on (codes "1 2 + 1 2 3" ++ 10 ∷ codes "4" ++ 10 ∷ [])
+        ≡ record { bytes = codes "|length error" ++ 10 ∷ codes "|   1 2 + 1 2 3" ++ 10 ∷ []; status = 3 } }
+    ensures sum_too_large { run_on (codes "9223372036854775807 + 1" ++ 10 ∷ [])
+        ≡ record { bytes = codes "|overflow error" ++ 10 ∷ codes "|   9223372036854775807 + 1" ++ 10 ∷ []; status = 3 } }
+    ensures no_text { run_on [] ≡ record { bytes = []; status = 0 } }
+    ensures blank_lines { run_on (codes " " ++ 10 ∷ 10 ∷ []) ≡ record { bytes = []; status = 0 } }
+    ensures carriage_return { run_on (codes "1" ++ 13 ∷ 10 ∷ []) ≡ record { bytes = codes "1" ++ 10 ∷ []; status = 0 } }
+    ensures number_too_large { run_on (codes "1 9223372036854775808" ++ 10 ∷ [])
+        ≡ record { bytes = codes "|overflow error" ++ 10 ∷ codes "|   1 9223372036854775808" ++ 10 ∷ []; status = 3 } }
+    ensures no_line_feed { run_on (codes "_5 7") ≡ record { bytes = codes "_5 7" ++ 10 ∷ []; status = 0 } }
+    ensures right_to_left { run_on (codes "2 * 3 4 - 1" ++ 10 ∷ codes "* _5 0 7" ++ 10 ∷ [])
+        ≡ record { bytes = codes "4 6" ++ 10 ∷ codes "_1 0 1" ++ 10 ∷ []; status = 0 } }
+    ensures misspelled { run_on (codes "- 5" ++ 10 ∷ codes "abc. 4" ++ 10 ∷ [])
+        ≡ record { bytes = codes "_5" ++ 10 ∷ codes "|spelling error" ++ 10 ∷ codes "|   abc. 4" ++ 10 ∷ []; status = 3 } }
+    ensures least_number { run_on (codes "_9223372036854775808" ++ 10 ∷ []) ≡ record { bytes = codes "_9223372036854775808" ++ 10 ∷ []; status = 0 } }
+    ensures least_number_negated { run_on (codes "- _9223372036854775808" ++ 10 ∷ [])
+        ≡ record { bytes = codes "|overflow error" ++ 10 ∷ codes "|   - _9223372036854775808" ++ 10 ∷ []; status = 3 } }
+    ensures last_carriage_return { run_on (codes "1" ++ 13 ∷ [])
+        ≡ record { bytes = codes "|spelling error" ++ 10 ∷ codes "|   1" ++ 13 ∷ 10 ∷ []; status = 3 } }
+{}

@@ -1,0 +1,21 @@
+use Rattle.std.proofs.Common.{◌≡◌, ℕ, ◌+◌, ◌*◌, ◌<◌, ◌≤◌, length, true}
+use Rattle.j_eval.specs.Meaning.{parsed, sentence}
+use Rattle.j_eval.specs.Meets.{stack_of, Onward}
+use Rattle.j_eval.proofs.Sentences.{queue_rest, marks}
+use Rattle.j_eval.proofs.machine.Machine.evaluate.Given as goal
+
+-- what is left from here is the whole
+abbrev pub invariant-turns : goal.invariant-turns
+invariant-turns l = record {
+  bound : ℕ;
+  enough : 2 * (length l.left + marks l.marked) + length l.stack.items < bound;
+  same : parsed bound (queue_rest l.marked l.left) (stack_of l.stack.items) l.self.state ≡ sentence l.items l.fn.self.state;
+  ended : l.marked ≡ true → (length l.left ≡ 0) × (0 < length l.stack.items);
+  most : l.self.state.steps + length l.stack.items + length l.left + marks l.marked ≤ l.fn.self.state.steps + length l.items + 2;
+  shown : l.self.state.shown ≡ l.fn.self.state.shown;
+  readiness : l.self.readiness ≡ l.fn.self.readiness;
+  onward : Onward l.fn.self l.self;
+}
+
+abbrev pub decreases-turns : goal.decreases-turns
+decreases-turns l = 2 * (length l.left + marks l.marked) + length l.stack.items

@@ -1,0 +1,10 @@
+pub mod Numbers
+pub mod Words
+pub mod Tokens
+pub mod Reading
+pub mod Display
+pub mod State
+pub mod Table
+pub mod Meaning
+pub mod Meets
+pub mod Machine

@@ -1,0 +1,14 @@
+//! Reads lines and evaluates sentences: so far of number lists and the verbs `+`, `-` and `*`.
+#![tactic(auto)]
+
+mod display;
+mod machine;
+mod numbers;
+mod outcome;
+mod prepared;
+mod stack;
+mod words;
+
+pub use machine::Machine;
+pub use outcome::{Entity, Outcome};
+pub use prepared::{Item, LineFault, Prepared, prepare};

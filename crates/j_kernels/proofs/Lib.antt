@@ -1,0 +1,4 @@
+pub mod Masks
+pub mod Filling
+pub mod Frames
+pub mod Answers
