@@ -1,8 +1,8 @@
 -- Bytes that wait before they are written.
-use Rattle.std.proofs.Common.{◌≡◌, List, ℕ, ◌++◌, [], ◌∷◌, Option, None, Some, Result, Ok, Err, IfErr, OnOk, refl, ap, sym, subst, ◌∙◌, append_assoc}
+use Rattle.std.proofs.Common.{◌≡◌, List, ℕ, ◌++◌, [], Option, Some, Result, Ok, Err, IfErr, refl, ap, sym, subst, ◌∙◌, append_assoc}
 use Rattle.std.proofs.lemmas.List.{append-nil}
 use Rattle.j_io.specs.Outside.{Grew, GrewByPrefix}
-use Rattle.j_cli.specs.Run.{RunState, End, going, stopped, spent, run_after, pieces}
+use Rattle.j_cli.specs.Run.{RunState, End, going, stopped, spent, pieces}
 use Rattle.j_cli.specs.Halts.{Ran, HaltsIn, Handed, HaltsBatched}
 use Rattle.j_cli.specs.declared.halt.Halt.{Halt}
 use Rattle.j_cli.specs.declared.halt.Halt.TheVariants as halt

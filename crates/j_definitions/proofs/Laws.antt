@@ -1,16 +1,15 @@
 -- What follows of boxes, weights and levels.
-use Rattle.std.proofs.Common.{drop, add-one, drop-cons, ◌≡◌, ℕ, ℤ, ◌+◌, ◌≤◌, ◌<◌, lit≤, List, [], ◌∷◌, ◌++◌, length, map, max, Bool, true, false, ◌&&◌, ◌==◌, take, get_or, refl, sym, ◌∙◌, ap, arith, pos}
+use Rattle.std.proofs.Common.{drop, add-one, drop-cons, ◌≡◌, ℕ, ℤ, ◌+◌, ◌≤◌, ◌<◌, lit≤, List, [], ◌∷◌, ◌++◌, length, map, max, Bool, true, false, ◌&&◌, ◌==◌, take, get_or, refl, sym, ◌∙◌, ap, arith}
 use Prim.Native.Nat.{zero, suc}
 use Rattle.std.proofs.Math.Dec.{eqb-suc-zero}
 use Rattle.std.specs.List.{sum_by}
-use Rattle.std.specs.Ordering.{int_eq}
 use Rattle.std.specs.Cmp.Lexicographic.{pointwise}
 use Rattle.std.proofs.lemmas.List.Sums.{sum_by-cons, sum_by_push}
 use Rattle.std.proofs.lemmas.List.{take_more, map-append, drop_all}
-use Rattle.j_definitions.specs.Array.{Atom, number, byte, nested, Row, row_end, row_more, Array, row_of, atoms_in, boxed, opened, row_weight, atom_weight, weight, row_level, atom_level, greatest_level, level, IsNoun, IsWithin, IsOfKind, atom_array, row_match, atom_match, arrays_match}
+use Rattle.j_definitions.specs.Array.{Atom, number, byte, nested, Array, row_of, boxed, opened, row_weight, atom_weight, weight, row_level, atom_level, greatest_level, level, IsNoun, IsOfKind, atom_array, row_match, atom_match, arrays_match}
 use Rattle.std.proofs.lemmas.List.Elements.{All-nil, All-cons}
-use Rattle.j_definitions.specs.declared.Kind.TheVariants.{Number, Character, Boxed}
-use Rattle.j_definitions.specs.Stored.{atoms_in-row_of, row_of-atoms_in}
+use Rattle.j_definitions.specs.declared.Kind.TheVariants.{Number, Character}
+use Rattle.j_definitions.specs.Stored.{atoms_in-row_of}
 
 -- to open what was boxed gives it back
 pub opened-boxed : (a : Array) → opened (boxed a) ≡ a

@@ -1,5 +1,5 @@
 -- What the scalar verbs mean: on one atom or two, and on whole nouns.
-use Rattle.std.specs.Prelude.{ℕ, ℤ, ◌^◌, pos, negsuc, neg_ℤ, ◌+ℤ◌, ◌-ℤ◌, ◌*ℤ◌, Bool, nat_lt, cond, List, [], ◌∷◌, map, Option, Some, None, Result, Ok, Err}
+use Rattle.std.specs.Prelude.{ℕ, ℤ, ◌^◌, pos, negsuc, neg_ℤ, ◌+ℤ◌, ◌-ℤ◌, ◌*ℤ◌, Bool, nat_lt, cond, List, map, Option, Some, None, Result, Ok, Err}
 use Rattle.std.specs.Int.{int_signum}
 use lib.ListN.{get_or}
 use Rattle.j_definitions.specs.Array.{Array, Atom, number, byte, nested}

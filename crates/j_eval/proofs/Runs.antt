@@ -1,9 +1,9 @@
 -- What a machine's answers say of the outcome of a run.
-use Rattle.std.proofs.Common.{◌≡◌, ℕ, ◌+◌, ◌<◌, Result, Ok, Err, refl, sym, ap, ◌∙◌, subst, arith, true, false, Bool, rules, tests}
+use Rattle.std.proofs.Common.{◌≡◌, ◌+◌, ◌<◌, Err, refl, sym, ap, ◌∙◌, true, false, Bool, rules, tests}
 use Rattle.std.specs.Prelude.{nat_lt, if◌then◌else◌}
 use Rattle.j_eval.specs.declared.outcome.Halt.{Halt}
 use Rattle.j_eval.specs.declared.outcome.Halt.TheVariants as halt
-use Rattle.j_eval.specs.State.{State, Outcome, Gave, Erred, Spent, Run, then_do, counted, one_step}
+use Rattle.j_eval.specs.State.{State, Outcome, Gave, Erred, Spent, Run, counted, one_step}
 use Rattle.j_eval.specs.Meets.{Running, Meets}
 
 abbrev next : State → State

@@ -1,14 +1,14 @@
 -- One turn of a sentence.
-use Rattle.std.proofs.Common.{◌≡◌, ℕ, zero, suc, ◌+◌, ◌-◌, ◌*◌, ◌<◌, ◌≤◌, List, [], ◌∷◌, ◌++◌, reverse, length, map, Bool, true, false, Option, Some, None, Result, Ok, Err, refl, sym, ap, ◌∙◌, subst, arith}
+use Rattle.std.proofs.Common.{◌≡◌, ℕ, zero, suc, ◌+◌, ◌-◌, ◌*◌, ◌<◌, ◌≤◌, List, [], ◌∷◌, ◌++◌, reverse, length, map, Bool, true, false, Some, None, Err, refl, sym, ap, ◌∙◌, subst, arith}
 use Rattle.std.proofs.lemmas.List.{reverse-append, nil_from_length, map-append}
 use Rattle.j_definitions.specs.Array.{Array}
 use Rattle.j_eval.specs.declared.outcome.Halt.{Halt}
 use Rattle.j_eval.specs.declared.outcome.Halt.TheVariants as halt
 use Rattle.j_eval.specs.declared.prepared.Item.{Item}
 use Rattle.j_eval.specs.declared.stack.Entry.{Entry}
-use Rattle.j_eval.specs.declared.stack.Entry.TheVariants.{Mark, Noun, Verb}
+use Rattle.j_eval.specs.declared.stack.Entry.TheVariants.{Mark}
 use Rattle.j_eval.specs.declared.stack.Row.{Row}
-use Rattle.j_eval.specs.State.{State, Outcome, Gave, Erred, Spent, Run, then_do, ◌>>=◌, counted, one_step}
+use Rattle.j_eval.specs.State.{State, Outcome, Gave, then_do, ◌>>=◌, counted, one_step}
 use Rattle.j_eval.specs.declared.stack.EntryKind.{EntryKind}
 use Rattle.j_eval.specs.declared.stack.EntryKind.TheVariants as kind
 use Rattle.j_eval.specs.Table.{row_at, row_of, kind_of}

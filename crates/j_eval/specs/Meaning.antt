@@ -1,5 +1,5 @@
 -- What a sentence does.
-use Rattle.std.specs.Prelude.{ℕ, zero, suc, ◌+◌, ◌*◌, nat_le, ◌&&◌, Bool, true, false, List, [], ◌∷◌, ◌++◌, length, map, reverse, Option, Some, None, Result, Ok, Err, if◌then◌else◌}
+use Rattle.std.specs.Prelude.{ℕ, zero, suc, ◌+◌, ◌*◌, nat_le, ◌&&◌, Bool, true, false, List, [], ◌∷◌, ◌++◌, length, map, reverse, Option, Some, None, if◌then◌else◌}
 use Rattle.j_definitions.specs.Array.{Array}
 use Rattle.j_definitions.specs.Scalars.{scalar_monad, scalar_dyad, monad_of, dyad_of}
 use Rattle.j_definitions.specs.declared.Fault.TheVariants.{Syntax, Limit}
@@ -11,7 +11,7 @@ use Rattle.j_eval.specs.declared.stack.Entry.TheVariants.{Mark, Noun, Verb}
 use Rattle.j_eval.specs.declared.stack.Row.{Row}
 use Rattle.j_eval.specs.declared.stack.Row.TheVariants as row
 use Rattle.j_eval.specs.Display as display
-use Rattle.j_eval.specs.State.{State, Outcome, Gave, Erred, Run, ◌>>=◌, pure, fail, counted, or_fault, Unit0}
+use Rattle.j_eval.specs.State.{Gave, Erred, Run, ◌>>=◌, pure, fail, counted, or_fault, Unit0}
 use Rattle.j_eval.specs.Table.{row_of, popped, popped_verb, popped_noun, is_edge, kind_of}
 
 -- a verb on one noun, and on two

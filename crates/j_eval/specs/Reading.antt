@@ -1,5 +1,5 @@
 -- What a line says: the items of a sentence, or the first fault of its words and then of its numbers.
-use Rattle.std.specs.Prelude.{ℕ, Bool, cond, List, map, Result, Ok, Err}
+use Rattle.std.specs.Prelude.{ℕ, cond, List, map, Result, Ok, Err}
 use Rattle.j_definitions.specs.Array.{Array}
 use Rattle.j_definitions.specs.Cells.{in_order}
 use Rattle.j_definitions.specs.declared.Fault.{Fault}

@@ -1,11 +1,11 @@
 -- The order of items.
-use Rattle.std.proofs.Common.{◌≡◌, ◌<◌, ◌*◌, ◌/◌, ℕ, ℤ, List, [], ◌∷◌, length, map, take, drop, refl, sym, ap, ◌∙◌, subst, arith}
+use Rattle.std.proofs.Common.{◌≡◌, ◌<◌, ◌*◌, ◌/◌, ℕ, ℤ, List, [], ◌∷◌, length, map, take, drop, refl, sym, ap, ◌∙◌, arith}
 use Rattle.std.specs.Ordering.{int_cmp}
 use Rattle.std.specs.Cmp.Lexicographic.{slice_cmp}
 use Rattle.std.specs.Cmp.Derive.Mapped.{lex_map}
 use Rattle.std.proofs.lemmas.List.{take-map, drop-map, length-map}
 use Rattle.std.proofs.Math.Nat.{mul-div_cancel_left}
-use Rattle.j_definitions.specs.Array.{Array, Atom, number, tally, product, IsNoun}
+use Rattle.j_definitions.specs.Array.{Array, number, tally, product, IsNoun}
 use Rattle.j_definitions.specs.Items.{item_size, item, atom_cmp, items_cmp}
 
 items_many : (s : List ℕ) → product s ≡ tally s * item_size s

@@ -1,6 +1,5 @@
-use Rattle.std.proofs.Common.{rules, ◌≡◌, List, ℕ, Option}
+use Rattle.std.proofs.Common.{rules, ◌≡◌}
 use Rattle.std.proofs.lemmas.Result.{err_from_is_err_and}
-use Rattle.j_cli.specs.Run.{RunState}
 use Rattle.j_cli.specs.declared.halt.Halt.TheVariants as halt
 use Rattle.j_cli.proofs.Batches.{halts_finish}
 use Rattle.j_cli.proofs.lines.halted.Goals as goal

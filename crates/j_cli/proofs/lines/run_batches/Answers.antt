@@ -1,6 +1,5 @@
-use Rattle.std.proofs.Common.{rules, ◌≡◌, ◌<◌, ◌++◌, [], List, ℕ, Some, length, subst, arith, ap, sym}
+use Rattle.std.proofs.Common.{rules, ◌<◌, ◌++◌, [], Some, length, arith}
 use Rattle.std.proofs.lemmas.Result.{err_from_is_err_and}
-use Rattle.j_io.specs.Outside.{Grew}
 use Rattle.j_cli.specs.Run.{lines_of}
 use Rattle.j_cli.specs.Halts.{run_of}
 use Rattle.j_cli.proofs.Known.{grew_then}

@@ -1,11 +1,11 @@
 use Rattle.std.proofs.Common.{rules, ◌≡◌, [], ◌∷◌, ◌∙◌, Ok, Some, List, ℕ, Option, subst, ap, length, sym, refl}
 use Rattle.std.proofs.lemmas.List.{nil_from_length}
 use Rattle.std.proofs.lemmas.Result.{err_from_is_err_and}
-use Rattle.j_io.specs.Outside.{Grew, GrewByPrefix}
+use Rattle.j_io.specs.Outside.{Grew}
 use Rattle.j_eval.specs.Reading.{reading}
 use Rattle.j_eval.specs.declared.outcome.Outcome.TheVariants as answer
 use Rattle.j_cli.specs.Halts.{run_of}
-use Rattle.j_cli.proofs.Known.{grew_nothing, prefix_nothing}
+use Rattle.j_cli.proofs.Known.{grew_nothing}
 use Rattle.j_cli.proofs.Executing.{turn_fits, ran_once, stops_if, next_misread, next_empty, halts_wanting}
 use Rattle.j_cli.proofs.running.execute.Goals as goal
 

@@ -1,4 +1,4 @@
-use Rattle.std.proofs.Common.{rules, arith, ◌∷◌, [], ◌++◌, ap, ◌∙◌, ℕ, List}
+use Rattle.std.proofs.Common.{rules, ◌∷◌, [], ◌++◌, ap, ◌∙◌, ℕ, List}
 use Rattle.j_eval.proofs.Rows.{spaced_printed}
 use Rattle.j_eval.proofs.display.print_spaced.Goals as goal
 

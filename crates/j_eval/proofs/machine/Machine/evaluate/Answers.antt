@@ -1,7 +1,5 @@
-use Rattle.std.proofs.Common.{rules, arith, sym, ◌∙◌, ◌≡◌, ◌≤◌, ◌<◌, ◌+◌, ◌-◌, length, subst, false, true, Some, None, ap, refl, Err, Bool, inl, inr, cond}
-use Rattle.std.specs.Prelude.{◌⊎◌}
+use Rattle.std.proofs.Common.{rules, arith, sym, ◌∙◌, ◌≡◌, ◌+◌, ◌-◌, length, subst, false, true, Some, None, ap, refl}
 use Rattle.std.proofs.lemmas.List.{length-reverse}
-use Rattle.j_eval.specs.State.{one_step}
 use Rattle.j_eval.specs.Table.{row_of}
 use Rattle.j_eval.specs.Meaning.{sentence}
 use Rattle.j_eval.specs.Meets.{stack_of, Meets, Running}
@@ -13,7 +11,7 @@ returns-in_err-tick-2-clause-gives c =
     let v = c.turns.invariant in
     let is : row_of (stack_of c.turns.stack.items) ≡ Some c.in-Some.row = search rules in
     let h = tick_err (queue_rest c.turns.marked c.turns.left.now) (stack_of c.turns.stack.items) c.turns.self.state v.bound c.in-Some.row c.in_err-tick-2.field-0.0 c.tick-in-Some.new.self
-        (sentence c.args.items.now c.args.self.now.state) (omega (arith, v.enough)) is v.same c.in_err-tick-2.ensures.gives in
+    (sentence c.args.items.now c.args.self.now.state) (omega (arith, v.enough)) is v.same c.in_err-tick-2.ensures.gives in
     search rules
 
 pub returns-in_err-tick-2-clause-spent : goal.returns-in_err-tick-2-clause-spent
@@ -28,7 +26,7 @@ turns-preserved-in_ok-reduce c =
     let v = c.turns.invariant in
     let is : row_of (stack_of c.turns.stack.items) ≡ Some c.in-Some.row = search rules in
     let more = reduce_more (queue_rest c.turns.marked c.turns.left.now) (stack_of c.turns.stack.items) c.turns.self.state v.bound c.in-Some.row (stack_of c.reduce.new.stack.items)
-        c.tick-in-Some.new.self.state c.reduce.new.self.state (omega (arith, v.enough)) is c.in_ok-tick-2.ensures.gives c.in_ok-reduce.ensures.gives in
+    c.tick-in-Some.new.self.state c.reduce.new.self.state (omega (arith, v.enough)) is c.in_ok-tick-2.ensures.gives c.in_ok-reduce.ensures.gives in
     let steps : c.reduce.new.self.state.steps ≡ c.turns.self.state.steps + 1 = ap (λ (m : Running). m.state.steps) c.in_ok-reduce.ensures.same ∙ c.in_ok-tick-2.ensures.counted in
     record {
       bound = v.bound - 1;
@@ -46,7 +44,7 @@ returns-in_err-reduce-clause-gives c =
     let v = c.turns.invariant in
     let is : row_of (stack_of c.turns.stack.items) ≡ Some c.in-Some.row = search rules in
     let h = reduce_err (queue_rest c.turns.marked c.turns.left.now) (stack_of c.turns.stack.items) c.turns.self.state v.bound c.in-Some.row c.in_err-reduce.field-0.0 c.reduce.new.self
-        c.tick-in-Some.new.self.state (stack_of c.reduce.new.stack.items) (sentence c.args.items.now c.args.self.now.state) (omega (arith, v.enough)) is c.in_ok-tick-2.ensures.gives v.same c.in_err-reduce.ensures.gives in
+    c.tick-in-Some.new.self.state (stack_of c.reduce.new.stack.items) (sentence c.args.items.now c.args.self.now.state) (omega (arith, v.enough)) is c.in_ok-tick-2.ensures.gives v.same c.in_err-reduce.ensures.gives in
     search rules
 
 pub turns-preserved-in-Some-split_last : goal.turns-preserved-in-Some-split_last
@@ -57,7 +55,7 @@ turns-preserved-in-Some-split_last c =
     let unmarked : c.turns.marked ≡ false = still_open c.turns.marked c.turns.left.now (λ e. (v.ended e).0) (omega (arith, last.1)) in
     let pushed = c.in_ok-push.ensures in
     let more = item_more c.turns.marked c.turns.left.now c.in-Some-split_last.rest.now c.in-Some-split_last.item.now c.in_ok-entry_of.field-0 (stack_of c.turns.stack.items) (stack_of c.push.new.stack.items)
-        c.turns.self.state v.bound unmarked last.0 (search rules) pushed.0 (omega (arith, v.enough)) none in
+    c.turns.self.state v.bound unmarked last.0 (search rules) pushed.0 (omega (arith, v.enough)) none in
     record {
       bound = v.bound - 1;
       enough = omega (arith, v.enough, last.1, pushed.1);

@@ -1,4 +1,4 @@
-use Rattle.std.proofs.Common.{rules, ◌∙◌, ◌≡◌, ap, take, drop, length, ◌*◌, ◌/◌}
+use Rattle.std.proofs.Common.{◌∙◌, ap, take, drop, length, ◌*◌, ◌/◌}
 use Rattle.std.specs.Ordering.{int_cmp}
 use Rattle.std.specs.Cmp.Lexicographic.{slice_cmp}
 use Rattle.j_noun.proofs.Ordering.{items_order}
