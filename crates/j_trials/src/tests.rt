@@ -1,5 +1,6 @@
 ghost use Rattle.std.specs.Prelude.{◌≡◌, ◌<◌};
 
+use crate::{run_in_memory, run_surely};
 use j_cli::run_command;
 use j_eval::{Entity, Machine, Outcome, prepare};
 use j_io::{MemorySink, MemorySource};
@@ -52,11 +53,11 @@ fn run_case(rt: &impl Abort, alloc: Global, case: &Case) -> Result<(), Fail> {
 }
 
 // A script with what it shows and its status.
-fn run_script(
+fn run_script<'a>(
     rt: &impl Abort,
     alloc: Global,
-    text: &[u8],
-    written: &[u8],
+    text: &'a [u8],
+    written: &'a [u8],
     status: u8,
 ) -> Result<(), Fail> {
     let case = Case {
@@ -192,5 +193,115 @@ fn faults_of_the_outside(rt: HostRuntime) -> Result<(), Fail> {
     for row in &rows {
         run_case(&rt, alloc, row)?;
     }
+    Ok(())
+}
+
+// Runs a long text, and tells how what it writes begins.
+fn run_long(
+    rt: &impl Abort,
+    alloc: Global,
+    text: Vec<u8>,
+    begins: &[u8],
+    status: u8,
+) -> Result<(), Fail> {
+    let words = Vec::new(alloc);
+    let mut texts = Vec::new(alloc);
+    texts.push((String::from_str(alloc, "-")?, text))?;
+    let mut sink = MemorySink::new(
+        Vec::with_capacity(alloc, 20_000_000)?,
+        4096,
+        Vec::new(alloc),
+    );
+    let answered = run_in_memory(alloc, &words, texts, &mut sink);
+    assert_eq!(rt; answered, status);
+    assert!(rt; sink.bytes().starts_with(begins));
+    assert_eq!(rt; sink.bytes().is_empty(), begins.is_empty());
+    Ok(())
+}
+
+// So many times a text.
+fn repeated(alloc: Global, text: &[u8], count: usize) -> Result<Vec<u8>, Fail> {
+    let mut all = Vec::new(alloc);
+    for _ in 0..count {
+        all.extend_from_slice(text)?;
+    }
+    Ok(all)
+}
+
+#[test]
+fn limits(rt: HostRuntime) -> Result<(), Fail> {
+    let alloc = rt.alloc();
+    let blanks = repeated(alloc, b" ", 16_777_216)?;
+    run_long(&rt, alloc, blanks, b"", 0)?;
+    let too_long = repeated(alloc, b" ", 16_777_217)?;
+    run_long(&rt, alloc, too_long, b"", 7)?;
+    let parts = repeated(alloc, b"7 ", 4_194_304)?;
+    run_long(&rt, alloc, parts, b"7 7 7", 0)?;
+    let too_many = repeated(alloc, b"7 ", 4_194_305)?;
+    run_long(&rt, alloc, too_many, b"|limit error\n|   7 7 7", 3)?;
+    let mut too_wide = repeated(alloc, b"0 ", 4_194_304)?;
+    too_wide.extend_from_slice(b"+ 1000000000000000000")?;
+    run_long(&rt, alloc, too_wide, b"|limit error\n|   0 0 0", 3)
+}
+
+#[test]
+fn sure_runs(rt: HostRuntime) -> Result<(), Fail> {
+    let alloc = rt.alloc();
+    let words = Vec::new(alloc);
+    assert_eq!(rt; run_surely(alloc, &words, b"1 2 3 + 10".to_vec(alloc)?), 0);
+    assert_eq!(rt; run_surely(alloc, &words, b"1 2 3 + 1 2".to_vec(alloc)?), 3);
+    Ok(())
+}
+
+#[test]
+fn machine_counts_steps(rt: HostRuntime) -> Result<(), Fail> {
+    let alloc = rt.alloc();
+    let mut machine = Machine::new(alloc, 5).ok().ok_or("a machine")?;
+    let lines: [(&[u8], &[u8], u64); 2] = [
+        (b"2 * 3 4 - 1", b"4 6\n", 3),
+        (b"- 5 _6", b"_5 6\n", 5),
+    ];
+    for (line, shown, steps) in &lines {
+        let sentence = prepare(alloc, line).ok().ok_or("a sentence")?;
+        assert!(rt; sentence.count() > 0);
+        let outcome = machine.sentence(&sentence);
+        assert!(rt; matches!(&outcome, Outcome::Value(Entity::Noun(_))));
+        assert_eq!(rt; machine.shown(), *shown);
+        assert_eq!(rt; machine.steps(), *steps);
+    }
+    let sentence = prepare(alloc, b"7").ok().ok_or("a sentence")?;
+    assert!(rt; sentence.count() > 0);
+    for _ in 0..2 {
+        let outcome = machine.sentence(&sentence);
+        assert!(rt; matches!(&outcome, Outcome::Spent));
+        assert_eq!(rt; machine.shown(), b"".as_slice());
+        assert_eq!(rt; machine.steps(), 5);
+    }
+    Ok(())
+}
+
+#[test]
+fn nouns_and_verbs(rt: HostRuntime) -> Result<(), Fail> {
+    let alloc = rt.alloc();
+    let mut shape = Shape::new();
+    assert!(rt; shape.add(2).is_ok());
+    let numbers = vec![in alloc; 3i64, 4]?;
+    prove!(numbers.len() == 2);
+    let list = Noun::make(alloc, shape, Atoms::Wholes(numbers))
+        .ok()
+        .ok_or("a list")?;
+    let sum = j_kernels::dyad(Scalar::Plus, alloc, &list, &Noun::number(10))
+        .ok()
+        .ok_or("a sum")?;
+    let less = j_kernels::dyad(Scalar::Minus, alloc, &sum, &Noun::number(10))
+        .ok()
+        .ok_or("a difference")?;
+    assert!(rt; less.matches(&list));
+    let negative = j_kernels::monad(Scalar::Minus, alloc, &less)
+        .ok()
+        .ok_or("a negative")?;
+    assert!(rt; !negative.matches(&list.duplicate().ok().ok_or("a copy")?));
+    assert_eq!(rt; list.tally(), 2);
+    assert_eq!(rt; list.order_items(0, 1), std::cmp::Ordering::Less);
     Ok(())
 }
