@@ -4,10 +4,10 @@
 use j_cli::run_command;
 use j_io::{RealSink, RealSource};
 use std::alloc::Global;
+use std::env;
 use std::io::{self, ErrorKind};
 use std::process::ExitCode;
 use std::rt::Env;
-use std::env;
 
 // Where the system doesn't give the words of the command line, for another cause than memory.
 const NO_WORDS: u8 = 8;
