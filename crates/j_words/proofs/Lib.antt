@@ -1,0 +1,10 @@
+pub mod Places
+pub mod Scans
+pub mod Texts
+pub mod NameLaws
+pub mod Joins
+pub mod Lying
+pub mod Plain
+pub mod Agreeing
+pub mod Steps
+pub mod Entries

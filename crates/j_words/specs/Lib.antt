@@ -1,0 +1,6 @@
+pub mod Bytes
+pub mod Forms
+pub mod Names
+pub mod Vocabulary
+pub mod Lines
+pub mod Joins

@@ -1,0 +1,45 @@
+//! The words of a line.
+#![tactic(auto)]
+
+mod bytes;
+mod forms;
+mod line;
+mod names;
+mod rows;
+mod vocabulary;
+
+pub use line::{spans, words};
+pub use rows::{name_laws, text_laws, worked_rows};
+
+/// What a word is.
+#[derive(Clone, Copy, PartialEq, Eq, Debug)]
+pub enum Class {
+    Number,
+    Text,
+    Name,
+    Verb,
+    Adverb,
+    Conjunction,
+    NounWord,
+    Copula,
+    Open,
+    Close,
+    Control,
+}
+
+/// One word of a line: its class, and where its bytes begin and end.
+#[derive(Clone, Copy, PartialEq, Eq, Debug)]
+pub struct Word {
+    pub class: Class,
+    pub from: u32,
+    pub to: u32,
+}
+
+/// Why a line has no words.
+#[derive(Clone, Copy, PartialEq, Eq, Debug)]
+pub enum WordFault {
+    OpenQuote,
+    Spelling,
+    Nonce,
+    NoMemory,
+}
