@@ -1,0 +1,14 @@
+use Rattle.std.proofs.Common.{◌≡◌, ◌≤◌, map, length}
+use Rattle.j_numbers.specs.declared.ranks.RankPart.TheVariants.{Number}
+use Rattle.j_numbers.specs.Literals.{noun}
+use Rattle.j_numbers.specs.Readings.{noun_after}
+use Rattle.j_numbers.proofs.words.read_noun.Given as goal
+
+abbrev pub invariant-loop-part : goal.invariant-loop-part
+invariant-loop-part l = record {
+  same : noun_after (map Number l.numbers.items) l.rest ≡ noun l.text;
+  few : length l.numbers.items ≤ 4194304;
+}
+
+abbrev pub decreases-loop-part : goal.decreases-loop-part
+decreases-loop-part l = length l.rest

@@ -1,0 +1,6 @@
+pub mod Ranks
+pub mod Numbers
+pub mod Literals
+pub mod Printed
+pub mod Capped
+pub mod Readings
