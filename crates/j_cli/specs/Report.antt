@@ -2,7 +2,7 @@
 use Rattle.std.specs.Prelude.{ℕ, cond, List, [], ◌∷◌, ◌++◌, reverse, codes}
 use Rattle.j_definitions.specs.declared.Fault.{Fault}
 use Rattle.j_definitions.specs.Faults.{fault_text}
-use Rattle.j_eval.specs.Numbers.{is_blank}
+use Rattle.j_words.specs.Bytes.{is_blank}
 
 abbrev pub without_leading_blanks : List ℕ → List ℕ
 without_leading_blanks [] = []

@@ -4,6 +4,7 @@ ghost use Rattle.j_io.specs.Outside.{Rose};
 ghost use Rattle.std.specs.Str.Lines.{strip_carriage_return};
 ghost use Rattle.j_eval.specs.Meets.{ready};
 ghost use Rattle.j_cli.specs.Run.{RunState, budget, going, lines_of};
+ghost use Rattle.j_cli.specs.Answer.{limit};
 ghost use Rattle.j_cli.specs.Halts.{Ran, HaltsIn, Handed, HaltsBatched, BlamesWrite, run_of};
 
 use crate::halt::Halt;
@@ -52,6 +53,7 @@ fn run_batches<K: Sink>(
     requires ready { machine.old.readiness ≡ ready }
     requires budget { machine.old.state.budget ≡ budget }
     requires room { machine.old.state.steps + length text.now + 1 ≤ budget }
+    requires limit { length text.now ≤ limit }
     requires none { out.old.items ≡ [] }
     ensures ok { OnOk result (Handed (K.bytes sink.old) (K.bytes sink.new) out.new.items (λ total. Ran (run_of machine.old) (lines_of text.now) (Some []) (Some total) going)) }
     ensures err { IfErr result (λ halt. HaltsBatched halt (run_of machine.old) (lines_of text.now) (K.bytes sink.old) (K.bytes sink.new) out.new.items) }
@@ -96,6 +98,7 @@ pub fn run_lines<K: Sink>(
     requires ready { machine.old.readiness ≡ ready }
     requires budget { machine.old.state.budget ≡ budget }
     requires room { machine.old.state.steps + length text.now + 1 ≤ budget }
+    requires limit { length text.now ≤ limit }
     ensures ok { OnOk result (Ran (run_of machine.old) (lines_of text.now) (K.bytes sink.old) (K.bytes sink.new) going) }
     ensures err { IfErr result (λ halt. HaltsIn halt (run_of machine.old) (lines_of text.now) (K.bytes sink.old) (K.bytes sink.new)) }
     ensures unspent { IsErrOf result Halt.Spent → ⊥ }

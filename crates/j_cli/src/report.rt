@@ -1,6 +1,6 @@
 // The report of an error.
 ghost use Rattle.std.specs.Prelude.{◌≡◌, IfOk, reverse};
-ghost use Rattle.j_eval.specs.Numbers.{is_blank};
+ghost use Rattle.j_words.specs.Bytes.{is_blank};
 ghost use Rattle.j_cli.specs.Report.{report, without_leading_blanks};
 
 use j_noun::Fault;

@@ -22,6 +22,12 @@ pub fn worked_rows()
     ensures least_number { run_on (codes "_9223372036854775808" ++ 10 ∷ []) ≡ record { bytes = codes "_9223372036854775808" ++ 10 ∷ []; status = 0 } }
     ensures least_number_negated { run_on (codes "- _9223372036854775808" ++ 10 ∷ [])
         ≡ record { bytes = codes "|overflow error" ++ 10 ∷ codes "|   - _9223372036854775808" ++ 10 ∷ []; status = 3 } }
+    ensures bases_and_powers { run_on (codes "16b1f 1e3" ++ 10 ∷ codes "2b129 _3e2" ++ 10 ∷ [])
+        ≡ record { bytes = codes "31 1000" ++ 10 ∷ codes "17 _300" ++ 10 ∷ []; status = 0 } }
+    ensures no_number { run_on (codes "3x" ++ 10 ∷ []) ≡ record { bytes = codes "|ill-formed number" ++ 10 ∷ codes "|   3x" ++ 10 ∷ []; status = 3 } }
+    ensures left_out { run_on (codes "%: 4" ++ 10 ∷ []) ≡ record { bytes = codes "|nonce error" ++ 10 ∷ codes "|   %: 4" ++ 10 ∷ []; status = 3 } }
+    ensures open_quote { run_on (codes "'abc" ++ 10 ∷ []) ≡ record { bytes = codes "|open quote" ++ 10 ∷ codes "|   'abc" ++ 10 ∷ []; status = 3 } }
+    ensures verb_last { run_on (codes "1 2 +" ++ 10 ∷ []) ≡ record { bytes = codes "|syntax error" ++ 10 ∷ codes "|   1 2 +" ++ 10 ∷ []; status = 3 } }
     ensures last_carriage_return { run_on (codes "1" ++ 13 ∷ [])
         ≡ record { bytes = codes "|spelling error" ++ 10 ∷ codes "|   1" ++ 13 ∷ 10 ∷ []; status = 3 } }
 {}

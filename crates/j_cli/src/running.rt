@@ -3,6 +3,7 @@ ghost use Rattle.std.specs.Prelude.{◌≡◌, ◌≤◌, ◌+◌, ◌∷◌, []
 ghost use Rattle.j_io.specs.Outside.{Grew};
 ghost use Rattle.j_eval.specs.Meets.{ready};
 ghost use Rattle.j_cli.specs.Run.{budget, going, run_after};
+ghost use Rattle.j_cli.specs.Answer.{limit};
 ghost use Rattle.j_cli.specs.Halts.{Ran, HaltsIn, StopsWith, run_of};
 ghost use Rattle.j_cli.specs.Report.{report};
 
@@ -44,6 +45,7 @@ pub fn execute(
     requires ready { machine.old.readiness ≡ ready }
     requires budget { machine.old.state.budget ≡ budget }
     requires room { machine.old.state.steps + length line.now + 1 ≤ budget }
+    requires limit { length line.now ≤ limit }
     ensures ready { OnOk result (machine.new.readiness ≡ ready) }
     ensures budget { OnOk result (machine.new.state.budget ≡ budget) }
     ensures steps { OnOk result (machine.new.state.steps ≤ machine.old.state.steps + length line.now + 1) }

@@ -1,11 +1,5 @@
-pub mod Places
-pub mod Parts
-pub mod Digits
 pub mod Lists
-pub mod Literals
-pub mod Stretches
 pub mod Items
-pub mod Numerals
 pub mod Rows
 pub mod Runs
 pub mod Sentences

@@ -1,5 +1,5 @@
 -- Results in order: what was read so far, before what is left.
-use Rattle.std.proofs.Common.{◌≡◌, ℕ, List, [], ◌∷◌, ◌++◌, suc, length, Result, Ok, Err, is_ok, refl, sym, ap, ◌∙◌}
+use Rattle.std.proofs.Common.{◌≡◌, ℕ, List, [], ◌∷◌, ◌++◌, Result, Ok, Err, refl, sym, ap, ◌∙◌}
 use Rattle.std.proofs.lemmas.List.{append_assoc, append-nil}
 use Rattle.j_definitions.specs.Cells.{in_order, with_first}
 
@@ -27,24 +27,3 @@ after_fault xs f r rs all e h = ap (λ ss. after xs (in_order ss)) e ∙ ap (λ 
 
 pub after_end : {C E : Type 0} (xs : List C) (all : List (Result C E)) → all ≡ [] → after xs (in_order all) ≡ Ok xs
 after_end xs all e = ap (λ ss. after xs (in_order ss)) e ∙ ap Ok (append-nil xs)
-
-first_ok : {C E : Type 0} (x : C) (r : Result (List C) E) → is_ok (with_first x r) ≡ is_ok r
-first_ok x (Ok ys) = refl
-first_ok x (Err e) = refl
-
-pub ok_more : {C E : Type 0} (x : C) (r : Result C E) (rs all : List (Result C E)) → all ≡ r ∷ rs → r ≡ Ok x → is_ok (in_order all) ≡ is_ok (in_order rs)
-ok_more x r rs all e h = ap (λ ss. is_ok (in_order ss)) e ∙ ap (λ s. is_ok (in_order (s ∷ rs))) h ∙ first_ok x (in_order rs)
-
-first_long : {C E : Type 0} (x : C) (n : ℕ) (r : Result (List C) E) → ((ys : List C) → r ≡ Ok ys → length ys ≡ n) → (xs : List C) → with_first x r ≡ Ok xs → length xs ≡ suc n
-first_long x n (Ok ys) h xs e =
-    let same : x ∷ ys ≡ xs = cc in
-    ap length (sym same) ∙ ap suc (h ys refl)
-first_long x n (Err f) h xs e = absurd (cc)
-
--- as many as there are results
-pub length-in_order : {C E : Type 0} (rs : List (Result C E)) (xs : List C) → in_order rs ≡ Ok xs → length xs ≡ length rs
-length-in_order [] xs e =
-    let same : [] ≡ xs = cc in
-    ap length (sym same)
-length-in_order (Err f ∷ rs) xs e = absurd (cc)
-length-in_order (Ok x ∷ rs) xs e = first_long x (length rs) (in_order rs) (length-in_order rs) xs e

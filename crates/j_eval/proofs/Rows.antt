@@ -4,7 +4,8 @@ use Rattle.std.specs.List.{join_with_byte, sum_by}
 use Rattle.std.proofs.lemmas.List.{take_more, append-nil}
 use Rattle.std.proofs.lemmas.List.Sums.{sum_by-cons, sum_by_push}
 use Rattle.j_definitions.specs.Array.{number}
-use Rattle.j_eval.specs.Display.{printed, spaced, atom_text, row_of_atoms}
+use Rattle.j_numbers.specs.Printed.{printed}
+use Rattle.j_eval.specs.Display.{spaced, atom_text, row_of_atoms}
 
 spaced-push : (ns : List ℤ) (n : ℤ) → spaced (ns ++ n ∷ []) ≡ spaced ns ++ (32 ∷ printed n)
 spaced-push [] n = append-nil (32 ∷ printed n)

@@ -1,12 +1,8 @@
 -- How a noun is shown: so far an atom or a list of numbers, in one row.
-use Rattle.std.specs.Prelude.{ℕ, ℤ, pos, negsuc, suc, decimal, List, [], ◌∷◌, ◌++◌, map}
+use Rattle.std.specs.Prelude.{ℕ, ℤ, List, [], ◌∷◌, ◌++◌, map}
 use Rattle.std.specs.List.{join_with_byte}
 use Rattle.j_definitions.specs.Array.{Array, Atom, number, byte, nested}
-
--- decimal digits, with `_` for minus
-abbrev pub printed : ℤ → List ℕ
-printed (pos n) = decimal n
-printed (negsuc n) = 95 ∷ decimal (suc n)
+use Rattle.j_numbers.specs.Printed.{printed}
 
 -- numbers, each with a blank before it
 abbrev pub spaced : List ℤ → List ℕ

@@ -1,6 +1,3 @@
-pub mod Numbers
-pub mod Words
-pub mod Tokens
 pub mod Reading
 pub mod Display
 pub mod State

@@ -16,7 +16,12 @@ use Rattle.j_eval.specs.declared.outcome.Halt.{Halt}
 use Rattle.j_eval.specs.declared.outcome.Halt.TheVariants as halt
 use Rattle.j_eval.specs.declared.stack.Entry.{Entry}
 use Rattle.j_eval.specs.State.{State, Outcome, Gave, Erred, Spent}
+use Rattle.j_eval.specs.Reading.{fault_of_word, fault_of_number}
 use Rattle.j_eval.specs.Table.{Popped}
+use Rattle.j_words.specs.declared.WordFault.{WordFault}
+use Rattle.j_words.specs.declared.WordFault.TheVariants as word
+use Rattle.j_numbers.specs.declared.fault.NumberFault.{NumberFault}
+use Rattle.j_numbers.specs.declared.fault.NumberFault.TheVariants as number
 
 -- what a machine is fit for
 pub data Readiness : Type 0 where
@@ -33,6 +38,15 @@ pub record Running : Type 0 where
 abbrev pub IsLineFault : {A : Type 0} → Result A Fault → LineFault → Type 0
 IsLineFault r (line.Fault f) = r ≡ Err f
 IsLineFault r line.NoMemory = Unit {0}
+
+-- the refusals of words and of number words, as those of a line
+abbrev pub refused_word : WordFault → LineFault
+refused_word word.NoMemory = line.NoMemory
+refused_word f = line.Fault (fault_of_word f)
+
+abbrev pub refused_number : NumberFault → LineFault
+refused_number number.NoMemory = line.NoMemory
+refused_number f = line.Fault (fault_of_number f)
 
 -- The answer and the machine are the outcome of the run. Want of memory may come in place of any answer, and then nothing is shown.
 abbrev pub Answers : Answer → Running → Outcome Array → Type 0

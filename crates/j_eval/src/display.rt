@@ -1,11 +1,12 @@
 // How nouns are shown.
 ghost use Rattle.std.specs.Prelude.{◌≡◌, ◌≤◌, ◌++◌, length, map, OnOk};
 ghost use Rattle.j_definitions.specs.Array.{number};
-ghost use Rattle.j_eval.specs.Display.{printed, spaced, row, row_of_atoms};
+ghost use Rattle.j_numbers.specs.Printed.{printed};
+ghost use Rattle.j_eval.specs.Display.{spaced, row, row_of_atoms};
 ghost use Rattle.j_eval.specs.Meets.{IsShown};
 
-use itoa::Buffer;
 use j_noun::{Fault, Noun, Refusal, View};
+use j_numbers::{Digits, print};
 use std::alloc::AllocError;
 
 /// How many bytes a number takes.
@@ -13,19 +14,17 @@ fn printed_length(n: i64) -> usize
     ensures value { result ≡ length (printed n) }
     ensures few { result ≤ 41 }
 {
-    let mut buffer = Buffer::new();
-    let digits = buffer.format(n.unsigned_abs()).len();
-    if n < 0 { digits + 1 } else { digits }
+    let mut digits = Digits::new();
+    print(n, &mut digits);
+    digits.text().len()
 }
 
-fn print(n: i64, into: &mut Vec<u8>) -> Result<(), AllocError>
+fn append_number(n: i64, into: &mut Vec<u8>) -> Result<(), AllocError>
     ensures { OnOk result (into.new.items ≡ into.old.items ++ printed n) }
 {
-    let mut buffer = Buffer::new();
-    if n < 0 {
-        into.push(b'_')?;
-    }
-    into.extend_from_slice(buffer.format(n.unsigned_abs()).as_bytes())
+    let mut digits = Digits::new();
+    print(n, &mut digits);
+    into.extend_from_slice(digits.text())
 }
 
 /// How many bytes a row of numbers takes, with its line feed.
@@ -46,7 +45,7 @@ fn print_spaced(numbers: &[i64], into: &mut Vec<u8>) -> Result<(), AllocError>
 {
     for n in numbers {
         into.push(b' ')?;
-        print(*n, into)?;
+        append_number(*n, into)?;
     }
     Ok(())
 }
@@ -58,7 +57,7 @@ fn print_row(numbers: &[i64], into: &mut Vec<u8>) -> Result<(), AllocError>
     match numbers.split_first() {
         None => Ok(into.push(b'\n')?),
         Some((first, rest)) => {
-            print(*first, into)?;
+            append_number(*first, into)?;
             print_spaced(rest, into)?;
             Ok(into.push(b'\n')?)
         }

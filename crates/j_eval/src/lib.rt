@@ -3,11 +3,9 @@
 
 mod display;
 mod machine;
-mod numbers;
 mod outcome;
 mod prepared;
 mod stack;
-mod words;
 
 pub use machine::Machine;
 pub use outcome::{Entity, Outcome};

@@ -1,15 +1,14 @@
 // The sentence of a line.
-ghost use Rattle.std.specs.Prelude.{◌≡◌, ◌≤◌, Ok as OkValue, length, map, vec_len, IfOk, IfErr, IsTrue};
-ghost use Rattle.std.specs.List.{list_all};
+ghost use Rattle.std.specs.Prelude.{◌≡◌, ◌≤◌, Ok as OkValue, length, map, vec_len, IfOk, IfErr};
 ghost use Rattle.j_definitions.specs.Cells.{in_order};
-ghost use Rattle.j_eval.specs.Words.{words, is_good};
-ghost use Rattle.j_eval.specs.Tokens.{word_of};
-ghost use Rattle.j_eval.specs.Reading.{item_of, reading};
-ghost use Rattle.j_eval.specs.Meets.{IsLineFault};
+ghost use Rattle.std.specs.List.{All};
+ghost use Rattle.j_words.specs.Lines.{IsWithin};
+ghost use Rattle.j_eval.specs.Reading.{verb_of, item_of, text_of, reading};
+ghost use Rattle.j_eval.specs.Meets.{IsLineFault, refused_word, refused_number};
 
-use crate::numbers::read_literal;
-use crate::words::{Token, first_word, is_spelled};
 use j_noun::{Fault, Noun, Scalar};
+use j_numbers::{NumberFault, read_noun};
+use j_words::{Class, Word, WordFault, words};
 use std::alloc::Global;
 use std::marker::Model;
 
@@ -62,48 +61,98 @@ impl Prepared {
     }
 }
 
-/// The item of a word.
-fn read_item(alloc: Global, word: Token<'_>) -> Result<Item, LineFault>
-    requires { IsTrue (is_good (word_of word)) }
-    ensures ok { IfOk result (λ i. item_of (word_of word.entry) ≡ OkValue i) }
-    ensures err { IfErr result (λ f. IsLineFault (item_of (word_of word.entry)) f) }
+fn of_word(fault: WordFault) -> LineFault
+    ensures { result ≡ refused_word fault }
 {
-    match word {
-        Token::Verb(v) => Ok(Item::Verb(v)),
-        Token::Text(text) => Ok(Item::Noun(read_literal(alloc, text)?)),
+    match fault {
+        WordFault::OpenQuote => LineFault::Fault(Fault::OpenQuote),
+        WordFault::Spelling => LineFault::Fault(Fault::Spelling),
+        WordFault::Nonce => LineFault::Fault(Fault::Nonce),
+        WordFault::NoMemory => LineFault::NoMemory,
     }
 }
 
-/// The items of the words of a line.
-#[tactic(auto, using(crate::proofs::Items::items_more, crate::proofs::Items::items_fault, crate::proofs::Items::items_end, crate::proofs::Items::good_first, crate::proofs::Items::good_rest, crate::proofs::Lists::after_none))]
-fn read_items(alloc: Global, line: &[u8]) -> Result<Vec<Item>, LineFault>
-    requires { IsTrue (list_all is_good (words line.now)) }
-    ensures ok { IfOk result (λ v. in_order (map item_of (words line.now)) ≡ OkValue v.items) }
-    ensures few { IfOk result (λ v. vec_len v ≤ length line.now) }
-    ensures err { IfErr result (λ f. IsLineFault (in_order (map item_of (words line.now))) f) }
+fn of_number(fault: NumberFault) -> LineFault
+    ensures { result ≡ refused_number fault }
+{
+    match fault {
+        NumberFault::IllFormed => LineFault::Fault(Fault::IllFormed),
+        NumberFault::Overflow => LineFault::Fault(Fault::Overflow),
+        NumberFault::Limit => LineFault::Fault(Fault::Limit),
+        NumberFault::NoMemory => LineFault::NoMemory,
+    }
+}
+
+/// The verbs that there are so far.
+fn verb_of(text: &[u8]) -> Option<Scalar>
+    ensures { result ≡ verb_of text.now }
+{
+    match text {
+        [b'+'] => Some(Scalar::Plus),
+        [b'-'] => Some(Scalar::Minus),
+        [b'*'] => Some(Scalar::Times),
+        _ => None,
+    }
+}
+
+/// The bytes of a word.
+fn text_of(line: &[u8], word: Word) -> &[u8]
+    requires { IsWithin (length line.now) word }
+    ensures { result.now ≡ text_of line.now word }
+{
+    &line[word.from as usize..word.to as usize]
+}
+
+/// The item of a word.
+fn read_item(alloc: Global, line: &[u8], word: Word) -> Result<Item, LineFault>
+    requires { IsWithin (length line.now) word }
+    ensures ok { IfOk result (λ i. item_of line.now word ≡ OkValue i) }
+    ensures err { IfErr result (λ f. IsLineFault (item_of line.now word) f) }
+{
+    let text = text_of(line, word);
+    match word.class {
+        Class::Number => match read_noun(alloc, text) {
+            Ok(noun) => Ok(Item::Noun(noun)),
+            Err(fault) => Err(of_number(fault)),
+        },
+        Class::Verb => match verb_of(text) {
+            Some(verb) => Ok(Item::Verb(verb)),
+            None => Err(LineFault::Fault(Fault::Nonce)),
+        },
+        _ => Err(LineFault::Fault(Fault::Nonce)),
+    }
+}
+
+/// The items of words.
+#[tactic(auto, using(crate::proofs::Items::items_more, crate::proofs::Items::items_fault, crate::proofs::Items::items_end, crate::proofs::Items::word_within, crate::proofs::Lists::after_none))]
+fn read_items(alloc: Global, line: &[u8], words: &[Word]) -> Result<Vec<Item>, LineFault>
+    requires { All (IsWithin (length line.now)) words.now }
+    ensures ok { IfOk result (λ v. in_order (map (item_of line.now) words.now) ≡ OkValue v.items) }
+    ensures few { IfOk result (λ v. vec_len v ≤ length words.now) }
+    ensures err { IfErr result (λ f. IsLineFault (in_order (map (item_of line.now) words.now)) f) }
 {
     let mut items = Vec::new(alloc);
-    let mut rest = line;
-    while let Some((word, after)) = first_word(rest) {
-        let item = read_item(alloc, word)?;
+    for word in words {
+        let item = read_item(alloc, line, *word)?;
         if items.push(item).is_err() {
             return Err(LineFault::NoMemory);
         }
-        rest = after;
     }
     Ok(items)
 }
 
 /// Reads the words and the numbers of a line.
-#[tactic(auto, using(crate::proofs::Items::spelled_good, crate::proofs::Items::spelled_reading, crate::proofs::Items::misspelled_reading))]
+#[tactic(auto)]
 pub fn prepare(alloc: Global, line: &[u8]) -> Result<Prepared, LineFault>
+    requires { length line.now ≤ 16777216 }
     ensures ok { IfOk result (λ p. reading line.now ≡ OkValue p) }
     ensures few { IfOk result (λ p. length p ≤ length line.now) }
     ensures err { IfErr result (λ f. IsLineFault (reading line.now) f) }
 {
-    if !is_spelled(line) {
-        return Err(LineFault::Fault(Fault::Spelling));
+    match words(alloc, line) {
+        Ok(words) => Ok(Prepared {
+            items: read_items(alloc, line, &words)?,
+        }),
+        Err(fault) => Err(of_word(fault)),
     }
-    let items = read_items(alloc, line)?;
-    Ok(Prepared { items })
 }

@@ -36,4 +36,6 @@ pub fn run_in_memory(
 }
 
 #[cfg(test)]
+mod lines;
+#[cfg(test)]
 mod tests;

@@ -70,10 +70,53 @@ fn run_script<'a>(
     run_case(rt, alloc, &case)
 }
 
+// The first line that a byte alone, doubled or after a letter shows, where no number is shown.
+fn shown_for(byte: u8) -> [&'static [u8]; 3] {
+    match byte {
+        b'\t' | b'\n' | b' ' => [b"", b"", b"|nonce error"],
+        b'\'' => [b"|open quote", b"|nonce error", b"|open quote"],
+        b'_' => [
+            b"|ill-formed number",
+            b"|ill-formed number",
+            b"|spelling error",
+        ],
+        b'+' | b'-' | b'*' => [b"|syntax error", b"|syntax error", b"|nonce error"],
+        33..=126 => [b"|nonce error", b"|nonce error", b"|nonce error"],
+        _ => [b"|spelling error", b"|spelling error", b"|spelling error"],
+    }
+}
+
+#[test]
+fn every_byte(rt: HostRuntime) -> Result<(), Fail> {
+    let alloc = rt.alloc();
+    for byte in 0..=255u8 {
+        let [alone, doubled, after_letter] = shown_for(byte);
+        if byte.is_ascii_digit() {
+            continue;
+        }
+        run_long(
+            &rt,
+            alloc,
+            vec![in alloc; byte]?,
+            alone,
+            if alone.is_empty() { 0 } else { 3 },
+        )?;
+        run_long(
+            &rt,
+            alloc,
+            vec![in alloc; byte, byte]?,
+            doubled,
+            if doubled.is_empty() { 0 } else { 3 },
+        )?;
+        run_long(&rt, alloc, vec![in alloc; b'a', byte]?, after_letter, 3)?;
+    }
+    Ok(())
+}
+
 #[test]
 fn scripts(rt: HostRuntime) -> Result<(), Fail> {
     let alloc = rt.alloc();
-    let rows: [(&[u8], &[u8], u8); 16] = [
+    let rows: [(&[u8], &[u8], u8); 34] = [
         (b"1 2 3 + 10\n", b"11 12 13\n", 0),
         (b"2 * 3 4 - 1\n* _5 0 7\n", b"4 6\n_1 0 1\n", 0),
         (b"1 2 + 1 2 3\n4\n", b"|length error\n|   1 2 + 1 2 3\n", 3),
@@ -96,9 +139,35 @@ fn scripts(rt: HostRuntime) -> Result<(), Fail> {
         (b"1\r", b"|spelling error\n|   1\r\n", 3),
         (
             b"5\n 1e3 9999999999999999999 \t\n6\n",
-            b"5\n|spelling error\n|   1e3 9999999999999999999\n",
+            b"5\n|overflow error\n|   1e3 9999999999999999999\n",
             3,
         ),
+        (b"2b129 _3e2\n", b"17 _300\n", 0),
+        (b"16b1f 1e3\n", b"31 1000\n", 0),
+        (b"1e19\n", b"|overflow error\n|   1e19\n", 3),
+        (b"1e400\n", b"|overflow error\n|   1e400\n", 3),
+        (b"0e400\n", b"0\n", 0),
+        (
+            b"_9223372036854775809\n",
+            b"|overflow error\n|   _9223372036854775809\n",
+            3,
+        ),
+        (
+            b"36bzzzzzzzzzzzzzzzzzzzzzzzzzzzzzz\n",
+            b"|overflow error\n|   36bzzzzzzzzzzzzzzzzzzzzzzzzzzzzzz\n",
+            3,
+        ),
+        (b"3x\n", b"|ill-formed number\n|   3x\n", 3),
+        (b"1 _ 2\n", b"|ill-formed number\n|   1 _ 2\n", 3),
+        (b"_ 1e19\n", b"|ill-formed number\n|   _ 1e19\n", 3),
+        (b"1e19 _\n", b"|overflow error\n|   1e19 _\n", 3),
+        (b"'abc\n", b"|open quote\n|   'abc\n", 3),
+        (b"abc.\n", b"|spelling error\n|   abc.\n", 3),
+        (b"%: 4\n", b"|nonce error\n|   %: 4\n", 3),
+        (b"3x %: 4\n", b"|nonce error\n|   3x %: 4\n", 3),
+        (b"abc =: 4\n", b"|nonce error\n|   abc =: 4\n", 3),
+        (b"1 2 +\n", b"|syntax error\n|   1 2 +\n", 3),
+        (b"3-4 NB. '\n", b"_1\n", 0),
         (
             b"1 9223372036854775808 2\n",
             b"|overflow error\n|   1 9223372036854775808 2\n",
@@ -262,6 +331,7 @@ fn machine_counts_steps(rt: HostRuntime) -> Result<(), Fail> {
         (b"- 5 _6", b"_5 6\n", 5),
     ];
     for (line, shown, steps) in &lines {
+        assert!(rt; line.len() <= 16_777_216);
         let sentence = prepare(alloc, line).ok().ok_or("a sentence")?;
         assert!(rt; sentence.count() > 0);
         let outcome = machine.sentence(&sentence);

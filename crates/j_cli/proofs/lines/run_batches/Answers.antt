@@ -51,6 +51,7 @@ lines-preserved-in_ok-hand_on g c =
       room = λ h.
           let some : 0 < length c.lines.rest.now = omega (arith, c.first_line.ensures.shorter) in
           omega (arith, c.first_line.ensures.room h, c.in_ok-execute.ensures.steps, v.room some);
+      within = omega (arith, c.first_line.ensures.shorter, v.within);
       written = v.written ++ out;
       grew = grew_then (g.K.Sink.bytes c.args.sink.now) (g.K.Sink.bytes c.lines.sink) (g.K.Sink.bytes c.hand_on.new.sink) v.written out v.grew handed.1;
       sofar = sofar_handed run lines (run_of c.execute.new.machine) after v.written out c.hand_on.new.out.items sofar handed.0;
@@ -68,6 +69,7 @@ lines-preserved g c =
       room = λ h.
           let some : 0 < length c.lines.rest.now = omega (arith, c.first_line.ensures.shorter) in
           omega (arith, c.first_line.ensures.room h, c.in_ok-execute.ensures.steps, v.room some);
+      within = omega (arith, c.first_line.ensures.shorter, v.within);
       written = v.written;
       grew = v.grew;
       sofar = sofar_more (run_of c.args.machine.now) (lines_of c.args.text.now) (run_of c.lines.machine) (run_of c.execute.new.machine) c.first_line.result.0.now (lines_of c.lines.rest.now) (lines_of c.first_line.result.1.now)

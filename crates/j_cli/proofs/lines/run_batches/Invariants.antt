@@ -12,6 +12,7 @@ invariant-lines g l = record {
   ready : l.machine.readiness ≡ ready;
   budget : l.machine.state.budget ≡ budget;
   room : 0 < length l.rest → l.machine.state.steps + length l.rest ≤ l.fn.machine.state.steps + length l.text;
+  within : length l.rest ≤ length l.text;
   written : List ℕ;
   grew : Grew (g.K.Sink.bytes l.fn.sink) (g.K.Sink.bytes l.sink) written;
   sofar : IsSofar (run_of l.fn.machine) (lines_of l.text) (run_of l.machine) (lines_of l.rest) (Some []) (Some (written ++ l.out.items));

@@ -50,3 +50,23 @@ returns-clause-least_number_negated c = refl
 pub returns-clause-last_carriage_return : goal.returns-clause-last_carriage_return
 unfolding next digits
 returns-clause-last_carriage_return c = refl
+
+pub returns-clause-bases_and_powers : goal.returns-clause-bases_and_powers
+unfolding next digits
+returns-clause-bases_and_powers c = refl
+
+pub returns-clause-no_number : goal.returns-clause-no_number
+unfolding next digits
+returns-clause-no_number c = refl
+
+pub returns-clause-left_out : goal.returns-clause-left_out
+unfolding next digits
+returns-clause-left_out c = refl
+
+pub returns-clause-open_quote : goal.returns-clause-open_quote
+unfolding next digits
+returns-clause-open_quote c = refl
+
+pub returns-clause-verb_last : goal.returns-clause-verb_last
+unfolding next digits
+returns-clause-verb_last c = refl
