@@ -119,6 +119,9 @@ pub noun_end : (zs : List ℤ) (text : List ℕ) → parts text ≡ [] → lengt
 noun_end zs text e l =
     ap noun_of (values_end false (map Number zs) text e (omega (arith, length-map zs Number))) ∙ ap noun_or_fault (finite_numbers zs)
 
+pub only_noun : (n : ℤ) (text part next : List ℕ) → parts text ≡ part ∷ parts next → parts next ≡ [] → part_value false part ≡ Ok (Number n) → noun text ≡ Ok (number_list (number n ∷ []))
+only_noun n text part next e f h = sym (noun_none text) ∙ noun_number [] n text part next e h ∙ noun_end (n ∷ []) next f (omega arith)
+
 pub noun_beyond : (xs : List RankPart) (text part next : List ℕ) → parts text ≡ part ∷ parts next → 4194304 ≤ length xs → noun_after xs text ≡ Err (limit_or_fault (in_order (values false text)))
 noun_beyond xs text part next e l = ap noun_of (values_beyond false xs text part next e l)
 

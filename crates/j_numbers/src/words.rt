@@ -1,5 +1,5 @@
 // Number words: their parts, and the noun or the ranks that they give.
-ghost use Rattle.std.specs.Prelude.{◌≡◌, ◌≤◌, ◌<◌, ◌∷◌, ◌++◌, [], length, map, not, vec_len, MatchOption, IfOk, IfErr, Ok as OkValue};
+ghost use Rattle.std.specs.Prelude.{◌≡◌, ◌≤◌, ◌<◌, ◌∷◌, ◌++◌, [], length, map, not, vec_len, MatchOption, IfSome, IfOk, IfErr, Ok as OkValue};
 ghost use Rattle.std.specs.List.{position_or_len};
 ghost use Rattle.j_definitions.specs.Array.{number};
 ghost use Rattle.j_definitions.specs.Cells.{in_order};
@@ -164,12 +164,30 @@ pub fn read_list(alloc: Global, text: &[u8]) -> Result<Literal, NumberFault>
     Ok(Literal::Noun(make_noun(alloc, numbers)?))
 }
 
+/// The number of a word that has one part, where it's a number.
+#[tactic(auto, using(crate::proofs::Readings::only_noun))]
+fn only_number(text: &[u8]) -> Option<i64>
+    ensures { IfSome result (λ n. noun text.now ≡ OkValue (number_list (number n ∷ []))) }
+{
+    let (part, after) = first_part(text)?;
+    if first_part(after).is_some() {
+        return None;
+    }
+    match read_part(part, false) {
+        Ok(RankPart::Number(n)) => Some(n),
+        _ => None,
+    }
+}
+
 /// The noun of a number word in which no part may be `_`.
 #[tactic(auto, using(crate::proofs::Readings::noun_none, crate::proofs::Readings::noun_number, crate::proofs::Readings::noun_fault, crate::proofs::Readings::noun_beyond, crate::proofs::Readings::noun_end, crate::proofs::Readings::all_finite, crate::proofs::Readings::fault_given, crate::proofs::Readings::memory_given))]
 pub fn read_noun(alloc: Global, text: &[u8]) -> Result<Noun, NumberFault>
     ensures ok { IfOk result (λ n. noun text.now ≡ OkValue n) }
     ensures err { IfErr result (λ f. IsFaultOf (noun text.now) f) }
 {
+    if let Some(n) = only_number(text) {
+        return Ok(Noun::number(n));
+    }
     let mut numbers = Vec::new(alloc);
     let mut rest = text;
     while let Some((part, after)) = first_part(rest) {

@@ -8,4 +8,4 @@ use Rattle.j_numbers.proofs.words.read_noun.Goals as goal
 pub returns-then-len-eq-MOST_PARTS-clause-err : goal.returns-then-len-eq-MOST_PARTS-clause-err
 returns-then-len-eq-MOST_PARTS-clause-err c =
     let many : 4194304 ≤ length c.loop-part.numbers.items = omega (arith, c.len.ensures, c.if-len-eq-MOST_PARTS.true) in
-    fault_given _ _ (sym c.loop-part.invariant.same ∙ noun_beyond (map Number c.loop-part.numbers.items) c.loop-part.rest.now c.in-Some.part.now c.in-Some.after.now c.in-Some.ensures.0 (omega (arith, many, length-map c.loop-part.numbers.items Number)) ∙ ap Err (sym c.fault_beyond.ensures))
+    fault_given _ _ (sym c.loop-part.invariant.same ∙ noun_beyond (map Number c.loop-part.numbers.items) c.loop-part.rest.now c.in-Some-first_part.part.now c.in-Some-first_part.after.now c.in-Some-first_part.ensures.0 (omega (arith, many, length-map c.loop-part.numbers.items Number)) ∙ ap Err (sym c.fault_beyond.ensures))
