@@ -5,8 +5,8 @@ ghost use Rattle.j_numbers.specs.Printed.{printed};
 ghost use Rattle.j_eval.specs.Display.{spaced, row, row_of_atoms};
 ghost use Rattle.j_eval.specs.Meets.{IsShown};
 
+use itoa::Buffer;
 use j_noun::{Fault, Noun, Refusal, View};
-use j_numbers::{Digits, print};
 use std::alloc::AllocError;
 
 /// How many bytes a number takes.
@@ -14,17 +14,19 @@ fn printed_length(n: i64) -> usize
     ensures value { result ≡ length (printed n) }
     ensures few { result ≤ 41 }
 {
-    let mut digits = Digits::new();
-    print(n, &mut digits);
-    digits.text().len()
+    let mut buffer = Buffer::new();
+    let digits = buffer.format(n.unsigned_abs()).len();
+    if n < 0 { digits + 1 } else { digits }
 }
 
 fn append_number(n: i64, into: &mut Vec<u8>) -> Result<(), AllocError>
     ensures { OnOk result (into.new.items ≡ into.old.items ++ printed n) }
 {
-    let mut digits = Digits::new();
-    print(n, &mut digits);
-    into.extend_from_slice(digits.text())
+    let mut buffer = Buffer::new();
+    if n < 0 {
+        into.push(b'_')?;
+    }
+    into.extend_from_slice(buffer.format(n.unsigned_abs()).as_bytes())
 }
 
 /// How many bytes a row of numbers takes, with its line feed.
