@@ -1,3 +1,4 @@
 pub mod Held
 pub mod Viewed
 pub mod Refused
+pub mod Ranks
