@@ -1,0 +1,77 @@
+-- Each part is less deep than the whole.
+use Rattle.std.specs.Prelude.{◌≤◌, ◌+◌, suc, max, List, [], ◌∷◌, map, Option, Some, None}
+use Rattle.std.proofs.Common.{arith}
+use denote.Param.Weighed.{most}
+use Rattle.j_entity.specs.Tree.{verb_depth, operand_depth, operator_depth, sentence_depth, sentences_depth, part_depth, word_depth, entity_depth, body_depth, WordTree}
+use Rattle.j_entity.specs.View.{verb_of, operand_of, operator_of, entity_of, word_of, words_tree, sentences_of, part_of, held_of}
+use Rattle.j_entity.specs.declared.entity.Body.TheDeep.{deep-Parts, deep-Operand, deep-OperatorParts, deep-Entity, deep-Item, deep-Part, deep-Held}
+use Rattle.j_entity.specs.declared.entity.Body.TheShapes.{weighed-BodyParts-monad}
+use Rattle.j_entity.specs.declared.entity.Held.{Held}
+use Rattle.j_entity.specs.declared.entity.Held.TheVariants as h
+use Rattle.j_entity.specs.declared.entity.Parts.{Parts}
+use Rattle.j_entity.specs.declared.entity.Parts.TheVariants as v
+use Rattle.j_entity.specs.declared.entity.Operand.{Operand}
+use Rattle.j_entity.specs.declared.entity.Operand.TheVariants as u
+use Rattle.j_entity.specs.declared.entity.OperatorParts.{OperatorParts}
+use Rattle.j_entity.specs.declared.entity.OperatorParts.TheVariants as o
+use Rattle.j_entity.specs.declared.entity.Entity.{Entity}
+use Rattle.j_entity.specs.declared.entity.Entity.TheVariants as e
+use Rattle.j_entity.specs.declared.entity.Item.{Item}
+use Rattle.j_entity.specs.declared.entity.Item.TheVariants as i
+use Rattle.j_entity.specs.declared.entity.Part.{Part}
+use Rattle.j_entity.specs.declared.entity.Prepared.{Prepared}
+
+operand_falls : (u : Operand) → deep-Operand u ≤ suc (operand_depth (operand_of u))
+operand_falls (u.Verb v) = omega arith
+operand_falls (u.Noun n) = omega arith
+operand_falls (u.Ranks l) = omega arith
+
+pub verb_falls : (p : Parts) → max (deep-Parts p) 0 ≤ verb_depth (verb_of p)
+verb_falls (v.Primitive p) = omega arith
+verb_falls (v.Named n r) = omega arith
+verb_falls (v.Fork f g h) = omega arith
+verb_falls (v.NounFork n g h) = omega arith
+verb_falls (v.Hook g h) = omega arith
+verb_falls (v.Derived m u) = omega (arith, operand_falls u)
+verb_falls (v.Derived2 m u v) = omega (arith, operand_falls u, operand_falls v)
+verb_falls (v.Explicit b) = omega arith
+verb_falls (v.Explicit1 b u) = omega (arith, operand_falls u)
+verb_falls (v.Explicit2 b u v) = omega (arith, operand_falls u, operand_falls v)
+
+pub operator_falls : (p : OperatorParts) → max (deep-OperatorParts p) 0 ≤ operator_depth (operator_of p)
+operator_falls (o.Primitive m) = omega arith
+operator_falls (o.Both a b) = omega arith
+operator_falls (o.Right c u) = omega (arith, operand_falls u)
+operator_falls (o.Left u c) = omega (arith, operand_falls u)
+operator_falls (o.Explicit b) = omega arith
+
+entity_falls : (e : Entity) → deep-Entity e ≤ suc (entity_depth (entity_of e))
+entity_falls (e.Noun n) = omega arith
+entity_falls (e.Verb v) = omega arith
+entity_falls (e.Adverb a) = omega arith
+entity_falls (e.Conjunction c) = omega arith
+
+word_falls : (w : Item) → deep-Item w ≤ word_depth (word_of w)
+word_falls (i.Entity e) = omega (arith, entity_falls e)
+word_falls (i.Ranks l) = omega arith
+word_falls (i.Name n) = omega arith
+word_falls i.Local = omega arith
+word_falls i.Global = omega arith
+word_falls i.Open = omega arith
+word_falls i.Close = omega arith
+
+pub sentence_falls : (ws : List Item) → max (most deep-Item ws) 0 ≤ sentence_depth (words_tree (map word_of ws))
+sentence_falls [] = omega arith
+sentence_falls (w ∷ ws) = omega (arith, word_falls w, sentence_falls ws)
+
+pub sentences_fall : (ss : List (List WordTree)) → most (λ s. sentence_depth (words_tree s) + 1) ss ≤ sentences_depth (sentences_of ss)
+sentences_fall [] = omega arith
+sentences_fall (s ∷ ss) = omega (arith, sentences_fall ss)
+
+part_falls : (p : Option Part) → (weighed-BodyParts-monad).weight Part deep-Part p ≤ part_depth (part_of p)
+part_falls None = omega arith
+part_falls (Some p) = omega (arith, sentences_fall p.sentences.items)
+
+pub held_falls : (h : Held) → max (deep-Held h) 0 ≤ body_depth (held_of h)
+held_falls (h.Own b) = omega (arith, part_falls b.monad, part_falls b.dyad)
+held_falls (h.Shared b) = omega (arith, part_falls b.value.monad, part_falls b.value.dyad)

@@ -1,0 +1,9 @@
+pub mod Tree
+pub mod Packed
+pub mod Code
+pub mod View
+pub mod Heights
+pub mod Ranks
+pub mod Kept
+pub mod Deep
+pub mod Lent

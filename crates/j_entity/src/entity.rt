@@ -1,0 +1,427 @@
+// Verbs, operators, bodies and sentences: one cycle of types, each seen as its tree.
+ghost use Rattle.std.specs.Prelude.{map, length, IsTrue, false, ◌≡◌, ◌≤◌, IfOk, IfErr};
+ghost use Rattle.j_noun.specs.Refused.{IsRefusedBeyond};
+ghost use Rattle.j_entity.specs.Heights.{verb_height, operator_height};
+ghost use Rattle.j_entity.specs.Ranks.{verb_ranks};
+ghost use Rattle.j_entity.specs.View.{verb_of, operand_of, operator_of, word_of, placed, entity_of};
+
+use j_leaves::{Modifier, Move, Name, Primitive, Ranks};
+use j_noun::{Fault, NoMemory, Noun, RankList, Refusal};
+use std::alloc::Global;
+use std::marker::Model;
+use std::rc::Rc;
+
+/// The parts of a verb: one variant for each kind of tree.
+#[cycle(entity)]
+#[derive(Drop)]
+pub enum Parts {
+    Primitive(Primitive),
+    Named(Name, Ranks),
+    Fork(Verb, Verb, Verb),
+    NounFork(Noun, Verb, Verb),
+    Hook(Verb, Verb),
+    Derived(Modifier, Operand),
+    Derived2(Modifier, Operand, Operand),
+    Explicit(Body),
+    Explicit1(Body, Operand),
+    Explicit2(Body, Operand, Operand),
+}
+
+/// A verb: its parts, which its copies share, with its height and its ranks.
+#[cycle(entity)]
+#[derive(Drop)]
+pub struct Verb {
+    parts: Rc<Parts>,
+    height: u8,
+    ranks: Ranks,
+}
+
+impl Model for Verb {
+    ghost use Rattle.j_entity.specs.Tree.{VerbTree, verb_depth};
+    ghost use Rattle.j_entity.specs.Code.{coded_verb};
+
+    ghost Value = { VerbTree };
+
+    ghost coded = { coded_verb };
+
+    ghost use Rattle.j_entity.specs.View.{verb_of};
+
+    ghost view = { λ v. verb_of v.parts.value };
+
+    ghost use Rattle.j_entity.specs.Kept.{IsKept};
+
+    ghost invariant = { λ v. IsKept v.height v.ranks (verb_of v.parts.value) };
+
+    ghost size = { verb_depth };
+
+    ghost use Rattle.j_entity.specs.Deep.{verb_falls};
+
+    ghost size_decreases = { λ a h. verb_falls a.parts.value };
+}
+
+/// What a modifier is applied to.
+#[cycle(entity)]
+#[derive(Drop)]
+pub enum Operand {
+    Verb(Verb),
+    Noun(Noun),
+    Ranks(RankList),
+}
+
+/// The parts of an adverb or a conjunction: one variant for each kind of tree.
+#[cycle(entity)]
+#[derive(Drop)]
+pub enum OperatorParts {
+    Primitive(Modifier),
+    Both(Operator, Operator),
+    Right(Operator, Operand),
+    Left(Operand, Operator),
+    Explicit(Body),
+}
+
+/// An adverb or a conjunction: its parts, which its copies share, with its height.
+#[cycle(entity)]
+#[derive(Drop)]
+pub struct Operator {
+    parts: Rc<OperatorParts>,
+    height: u8,
+}
+
+impl Model for Operator {
+    ghost use Rattle.j_entity.specs.Tree.{OperatorTree, operator_depth};
+    ghost use Rattle.j_entity.specs.Code.{coded_operator};
+
+    ghost Value = { OperatorTree };
+
+    ghost coded = { coded_operator };
+
+    ghost use Rattle.j_entity.specs.View.{operator_of};
+
+    ghost view = { λ o. operator_of o.parts.value };
+
+    ghost use Rattle.j_entity.specs.Kept.{IsKeptOperator};
+
+    ghost invariant = { λ o. IsKeptOperator o.height (operator_of o.parts.value) };
+
+    ghost size = { operator_depth };
+
+    ghost use Rattle.j_entity.specs.Deep.{operator_falls};
+
+    ghost size_decreases = { λ a h. operator_falls a.parts.value };
+}
+
+/// What a name may hold and a sentence may give.
+#[cycle(entity)]
+#[derive(Drop)]
+pub enum Entity {
+    Noun(Noun),
+    Verb(Verb),
+    Adverb(Operator),
+    Conjunction(Operator),
+}
+
+/// A word of a sentence; `Local` is `=.` and `Global` is `=:`.
+#[cycle(entity)]
+#[derive(Drop)]
+pub enum Item {
+    Entity(Entity),
+    Ranks(RankList),
+    Name(Name),
+    Local,
+    Global,
+    Open,
+    Close,
+}
+
+/// The words of one sentence.
+#[cycle(entity)]
+#[derive(Drop)]
+pub struct Prepared {
+    items: Vec<Item>,
+}
+
+impl Model for Prepared {
+    ghost use Rattle.std.specs.Prelude.{List, map, IsTrue, false};
+    ghost use Rattle.std.specs.Coded.{coded_list};
+    ghost use Rattle.j_entity.specs.Tree.{WordTree, sentence_depth};
+    ghost use Rattle.j_entity.specs.Code.{coded_word};
+
+    ghost Value = { List WordTree };
+
+    ghost coded = { coded_list coded_word };
+
+    ghost use Rattle.j_entity.specs.View.{word_of, words_tree, placed};
+
+    ghost view = { λ p. map word_of p.items.items };
+
+    ghost invariant = { λ p. IsTrue (placed false (map word_of p.items.items)) };
+
+    ghost size = { λ ws. sentence_depth (words_tree ws) };
+
+    ghost use Rattle.j_entity.specs.Deep.{sentence_falls};
+
+    ghost size_decreases = { λ a h. sentence_falls a.items.items };
+}
+
+/// The sentences of one valence of a body, and what is done with them.
+#[cycle(entity)]
+#[derive(Drop)]
+pub struct Part {
+    pub sentences: Vec<Prepared>,
+    pub moves: Vec<Move>,
+}
+
+#[cycle(entity)]
+#[derive(Drop)]
+struct BodyParts {
+    number: i64,
+    lines: Vec<Vec<u8>>,
+    monad: Option<Part>,
+    dyad: Option<Part>,
+}
+
+/// An explicit definition: its number, its lines, and the parts of its two valences.
+#[cycle(entity)]
+#[derive(Drop)]
+pub struct Body {
+    held: Held,
+}
+
+/// A body is made without memory, and shared once it is part of a verb or an operator.
+#[cycle(entity)]
+#[derive(Drop)]
+enum Held {
+    Own(BodyParts),
+    Shared(Rc<BodyParts>),
+}
+
+impl Model for Body {
+    ghost use Rattle.j_entity.specs.Tree.{BodyTree, body_depth};
+    ghost use Rattle.j_entity.specs.Code.{coded_body};
+
+    ghost Value = { BodyTree };
+
+    ghost coded = { coded_body };
+
+    ghost use Rattle.j_entity.specs.View.{held_of};
+
+    ghost view = { λ b. held_of b.held };
+
+    ghost size = { body_depth };
+
+    ghost use Rattle.j_entity.specs.Deep.{held_falls};
+
+    ghost size_decreases = { λ a h. held_falls a.held };
+}
+
+impl Verb {
+    /// The verb of these parts.
+    pub fn derive(alloc: Global, parts: Parts) -> Result<Verb, Refusal>
+        ensures ok { IfOk result (λ v. (v ≡ verb_of parts) × (verb_height (verb_of parts) ≤ 64)) }
+        ensures err { IfErr result (IsRefusedBeyond (verb_height (verb_of parts) ≤ 64)) }
+    {
+        let height = parts.height();
+        if height > 64 {
+            return Err(Refusal::Fault(Fault::Limit));
+        }
+        let ranks = parts.ranks();
+        let parts = shared_verb(alloc, parts)?;
+        Ok(Verb {
+            parts,
+            height,
+            ranks,
+        })
+    }
+
+    /// 0 for what isn't made of parts, else one more than that of the highest part.
+    pub fn height(&self) -> u8
+        ensures value { result ≡ verb_height self.now }
+        ensures fits { result ≤ 64 }
+    {
+        self.height
+    }
+
+    pub fn ranks(&self) -> Ranks
+        ensures { result ≡ verb_ranks self.now }
+    {
+        self.ranks
+    }
+
+    /// An equal verb, which shares the parts.
+    pub fn duplicate(&self) -> Result<Verb, NoMemory>
+        ensures { IfOk result (λ v. v ≡ self.now) }
+    {
+        match self.parts.clone() {
+            Ok(parts) => Ok(Verb {
+                parts,
+                height: self.height,
+                ranks: self.ranks,
+            }),
+            Err(_) => Err(NoMemory),
+        }
+    }
+
+    pub(crate) fn parts(&self) -> &Parts
+        ensures { verb_of result.now ≡ self.now }
+    {
+        &self.parts
+    }
+}
+
+impl Body {
+    // The same body, whose parts can be shared.
+    fn share(self, alloc: Global) -> Result<Body, NoMemory>
+        ensures { IfOk result (λ b. b ≡ self) }
+    {
+        match self.held {
+            Held::Own(parts) => match Rc::new(alloc, parts) {
+                Ok(parts) => Ok(Body {
+                    held: Held::Shared(parts),
+                }),
+                Err(_) => Err(NoMemory),
+            },
+            Held::Shared(parts) => Ok(Body {
+                held: Held::Shared(parts),
+            }),
+        }
+    }
+}
+
+impl Parts {
+    // The same parts with a body that can be shared.
+    fn share(self, alloc: Global) -> Result<Parts, NoMemory>
+        ensures { IfOk result (λ p. verb_of p ≡ verb_of self) }
+    {
+        match self {
+            Parts::Explicit(b) => Ok(Parts::Explicit(b.share(alloc)?)),
+            Parts::Explicit1(b, u) => Ok(Parts::Explicit1(b.share(alloc)?, u)),
+            Parts::Explicit2(b, u, v) => Ok(Parts::Explicit2(b.share(alloc)?, u, v)),
+            other => Ok(other),
+        }
+    }
+}
+
+// The parts of a verb, which its copies share.
+fn shared_verb(alloc: Global, parts: Parts) -> Result<Rc<Parts>, NoMemory>
+    ensures { IfOk result (λ p. verb_of p.value ≡ verb_of parts) }
+{
+    match Rc::new(alloc, parts.share(alloc)?) {
+        Ok(parts) => Ok(parts),
+        Err(_) => Err(NoMemory),
+    }
+}
+
+impl OperatorParts {
+    // The same parts with a body that can be shared.
+    fn share(self, alloc: Global) -> Result<OperatorParts, NoMemory>
+        ensures { IfOk result (λ p. operator_of p ≡ operator_of self) }
+    {
+        match self {
+            OperatorParts::Explicit(b) => Ok(OperatorParts::Explicit(b.share(alloc)?)),
+            other => Ok(other),
+        }
+    }
+}
+
+// The parts of an operator, which its copies share.
+fn shared_operator(alloc: Global, parts: OperatorParts) -> Result<Rc<OperatorParts>, NoMemory>
+    ensures { IfOk result (λ p. operator_of p.value ≡ operator_of parts) }
+{
+    match Rc::new(alloc, parts.share(alloc)?) {
+        Ok(parts) => Ok(parts),
+        Err(_) => Err(NoMemory),
+    }
+}
+
+impl Operator {
+    /// The operator of these parts.
+    pub fn derive(alloc: Global, parts: OperatorParts) -> Result<Operator, Refusal>
+        ensures ok { IfOk result (λ o. (o ≡ operator_of parts) × (operator_height (operator_of parts) ≤ 64)) }
+        ensures err { IfErr result (IsRefusedBeyond (operator_height (operator_of parts) ≤ 64)) }
+    {
+        let height = parts.height();
+        if height > 64 {
+            return Err(Refusal::Fault(Fault::Limit));
+        }
+        let parts = shared_operator(alloc, parts)?;
+        Ok(Operator { parts, height })
+    }
+
+    /// 0 for a word or a body, else one more than that of the highest part.
+    pub fn height(&self) -> u8
+        ensures value { result ≡ operator_height self.now }
+        ensures fits { result ≤ 64 }
+    {
+        self.height
+    }
+
+    /// An equal operator, which shares the parts.
+    pub fn duplicate(&self) -> Result<Operator, NoMemory>
+        ensures { IfOk result (λ o. o ≡ self.now) }
+    {
+        match self.parts.clone() {
+            Ok(parts) => Ok(Operator {
+                parts,
+                height: self.height,
+            }),
+            Err(_) => Err(NoMemory),
+        }
+    }
+
+    pub(crate) fn parts(&self) -> &OperatorParts
+        ensures { operator_of result.now ≡ self.now }
+    {
+        &self.parts
+    }
+}
+
+impl Operand {
+    /// An equal operand, which shares its parts.
+    pub fn duplicate(&self) -> Result<Operand, NoMemory>
+        ensures { IfOk result (λ u. operand_of u ≡ operand_of self.now) }
+    {
+        match self {
+            Operand::Verb(v) => Ok(Operand::Verb(v.duplicate()?)),
+            Operand::Noun(n) => Ok(Operand::Noun(n.duplicate()?)),
+            Operand::Ranks(l) => Ok(Operand::Ranks(l.duplicate()?)),
+        }
+    }
+}
+
+impl Entity {
+    /// An equal entity, which shares its parts.
+    pub fn duplicate(&self) -> Result<Entity, NoMemory>
+        ensures { IfOk result (λ e. entity_of e ≡ entity_of self.now) }
+    {
+        match self {
+            Entity::Noun(n) => Ok(Entity::Noun(n.duplicate()?)),
+            Entity::Verb(v) => Ok(Entity::Verb(v.duplicate()?)),
+            Entity::Adverb(a) => Ok(Entity::Adverb(a.duplicate()?)),
+            Entity::Conjunction(c) => Ok(Entity::Conjunction(c.duplicate()?)),
+        }
+    }
+}
+
+impl Prepared {
+    /// The sentence of these words. A rank list stands only directly after the conjunction `"` or `^:`.
+    pub fn make(items: Vec<Item>) -> Prepared
+        requires { IsTrue (placed false (map word_of items.items)) }
+        ensures { result ≡ map word_of items.items }
+    {
+        Prepared { items }
+    }
+
+    pub fn items(&self) -> &[Item]
+        ensures words { map word_of result.now ≡ self.now }
+        ensures placed { IsTrue (placed false self.now) }
+    {
+        self.items.as_slice()
+    }
+
+    /// The number of words.
+    pub fn count(&self) -> usize
+        ensures { result ≡ length self.now }
+    {
+        self.items.len()
+    }
+}
