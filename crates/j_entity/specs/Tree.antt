@@ -11,9 +11,9 @@ use Rattle.j_leaves.specs.declared.moves.Move.{Move}
 mutual
   pub data VerbTree : Type 0 where
     primitive : Primitive → VerbTree
-    named : Name → Ranks → VerbTree
+    named : NameParts → Ranks → VerbTree
     fork : VerbTree → VerbTree → VerbTree → VerbTree
-    noun_fork : Noun → VerbTree → VerbTree → VerbTree
+    noun_fork : Array → VerbTree → VerbTree → VerbTree
     hook : VerbTree → VerbTree → VerbTree
     derived : Modifier → OperandTree → VerbTree
     derived2 : Modifier → OperandTree → OperandTree → VerbTree
@@ -23,8 +23,8 @@ mutual
 
   pub data OperandTree : Type 0 where
     verb : VerbTree → OperandTree
-    noun : Noun → OperandTree
-    rank_list : RankList → OperandTree
+    noun : Array → OperandTree
+    rank_list : List RankPart → OperandTree
 
   pub data OperatorTree : Type 0 where
     modifier : Modifier → OperatorTree
@@ -34,7 +34,7 @@ mutual
     defined : BodyTree → OperatorTree
 
   pub data EntityTree : Type 0 where
-    a_noun : Noun → EntityTree
+    a_noun : Array → EntityTree
     a_verb : VerbTree → EntityTree
     an_adverb : OperatorTree → EntityTree
     a_conjunction : OperatorTree → EntityTree
@@ -42,8 +42,8 @@ mutual
   -- a word of a sentence
   pub data WordTree : Type 0 where
     entity : EntityTree → WordTree
-    ranks_word : RankList → WordTree
-    name : Name → WordTree
+    ranks_word : List RankPart → WordTree
+    name : NameParts → WordTree
     local_copula : WordTree
     global_copula : WordTree
     open_mark : WordTree

@@ -66,6 +66,7 @@ fn primitive_ranks(p: Primitive) -> Ranks
     }
 }
 
+#[tactic(auto, using(crate::proofs::Numbers::many))]
 fn number_ranks(l: &[i64]) -> Ranks
     ensures { result ≡ spec.listed_ranks (spec.numbers_in (map number l.now)) }
 {
