@@ -1,7 +1,7 @@
-pub mod Reading
-pub mod Display
 pub mod State
 pub mod Table
+pub mod Stack
+pub mod Applying
 pub mod Meaning
 pub mod Meets
 pub mod Machine

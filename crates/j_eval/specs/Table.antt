@@ -1,76 +1,107 @@
--- The parsing table: the first three rows, over the first four entries of the stack.
-use Rattle.std.specs.Prelude.{ℕ, zero, suc, ◌&&◌, ◌||◌, Bool, true, false, List, [], ◌∷◌, Option, Some, None, Result, Ok, Err, if◌then◌else◌}
-use Rattle.j_definitions.specs.Array.{Array}
-use Rattle.j_definitions.specs.declared.Fault.{Fault}
-use Rattle.j_definitions.specs.declared.Fault.TheVariants.{Syntax}
-use Rattle.j_definitions.specs.declared.Scalar.{Scalar}
-use Rattle.j_eval.specs.declared.stack.Entry.{Entry}
-use Rattle.j_eval.specs.declared.stack.Entry.TheVariants.{Mark, Noun, Verb}
+-- The parsing table: nine rows over the first four entries of the stack.
+use Rattle.std.specs.Prelude.{ℕ, zero, suc, ◌&&◌, ◌||◌, Bool, true, false, List, [], ◌∷◌, Option, Some, None, if◌then◌else◌}
+use Rattle.j_entity.specs.Tree.{EntityTree, WordTree, a_noun, a_verb, an_adverb, a_conjunction, entity, ranks_word, name, local_copula, global_copula, open_mark, close_mark}
 use Rattle.j_eval.specs.declared.stack.EntryKind.{EntryKind}
 use Rattle.j_eval.specs.declared.stack.EntryKind.TheVariants as kind
 use Rattle.j_eval.specs.declared.stack.Row.{Row}
 use Rattle.j_eval.specs.declared.stack.Row.TheVariants as row
 
-abbrev pub kind_of : Entry → EntryKind
-kind_of Mark = kind.Edge
-kind_of (Noun y) = kind.Noun
-kind_of (Verb v) = kind.Verb
+-- an entry of the stack: the start mark or a word
+pub data Slot : Type 0 where
+  Start : Slot
+  Word : WordTree → Slot
+
+abbrev pub entity_kind : EntityTree → EntryKind
+entity_kind (a_noun y) = kind.Noun
+entity_kind (a_verb v) = kind.Verb
+entity_kind (an_adverb a) = kind.Adverb
+entity_kind (a_conjunction c) = kind.Conjunction
+
+-- A rank list counts as a noun.
+abbrev pub word_kind : WordTree → EntryKind
+word_kind (entity e) = entity_kind e
+word_kind (ranks_word l) = kind.Noun
+word_kind (name n) = kind.Name
+word_kind local_copula = kind.Copula
+word_kind global_copula = kind.Copula
+word_kind open_mark = kind.Open
+word_kind close_mark = kind.Close
+
+abbrev pub kind_of : Slot → EntryKind
+kind_of Start = kind.Start
+kind_of (Word w) = word_kind w
 
 -- the kind of an entry, the leftmost being the first
-abbrev pub kind_at : List Entry → ℕ → EntryKind
+abbrev pub kind_at : List Slot → ℕ → EntryKind
 kind_at [] k = kind.Nothing
 kind_at (e ∷ es) zero = kind_of e
 kind_at (e ∷ es) (suc k) = kind_at es k
 
-abbrev pub is_edge : EntryKind → Bool
-is_edge kind.Edge = true
-is_edge kind.Noun = false
-is_edge kind.Verb = false
-is_edge kind.Nothing = false
+abbrev pub is_start : EntryKind → Bool
+is_start kind.Start = true
+is_start _ = false
+
+abbrev pub is_copula : EntryKind → Bool
+is_copula kind.Copula = true
+is_copula _ = false
+
+abbrev pub is_open : EntryKind → Bool
+is_open kind.Open = true
+is_open _ = false
+
+abbrev pub is_close : EntryKind → Bool
+is_close kind.Close = true
+is_close _ = false
 
 abbrev pub is_noun : EntryKind → Bool
-is_noun kind.Edge = false
 is_noun kind.Noun = true
-is_noun kind.Verb = false
-is_noun kind.Nothing = false
+is_noun _ = false
 
 abbrev pub is_verb : EntryKind → Bool
-is_verb kind.Edge = false
-is_verb kind.Noun = false
 is_verb kind.Verb = true
-is_verb kind.Nothing = false
+is_verb _ = false
 
--- an edge, a verb or a noun
+abbrev pub is_adverb : EntryKind → Bool
+is_adverb kind.Adverb = true
+is_adverb _ = false
+
+abbrev pub is_conjunction : EntryKind → Bool
+is_conjunction kind.Conjunction = true
+is_conjunction _ = false
+
+abbrev pub is_name : EntryKind → Bool
+is_name kind.Name = true
+is_name _ = false
+
+-- the start mark, a copula or `(`
+abbrev pub is_edge : EntryKind → Bool
+is_edge k = is_start k || (is_copula k || is_open k)
+
+-- a noun or a verb
+abbrev pub is_operand : EntryKind → Bool
+is_operand k = is_noun k || is_verb k
+
+-- an edge, an adverb, a verb or a noun
 abbrev pub is_left : EntryKind → Bool
-is_left k = is_edge k || (is_verb k || is_noun k)
+is_left k = is_edge k || (is_adverb k || is_operand k)
 
--- The first row that matches: 0, a verb at an edge on the noun right of it; 1, a verb on the noun right of it, with a verb on its left; 2, a verb between two nouns.
+-- a conjunction, an adverb, a verb or a noun
+abbrev pub is_entity : EntryKind → Bool
+is_entity k = is_conjunction k || (is_adverb k || is_operand k)
+
+-- The first row that matches.
 abbrev pub row_at : EntryKind → EntryKind → EntryKind → EntryKind → Option Row
 row_at a b c d =
     if is_edge a && (is_verb b && is_noun c) then Some row.Monad
     else (if is_left a && (is_verb b && (is_verb c && is_noun d)) then Some row.MonadRight
     else (if is_left a && (is_noun b && (is_verb c && is_noun d)) then Some row.Dyad
-    else None))
+    else (if is_left a && (is_operand b && is_adverb c) then Some row.Adverb
+    else (if is_left a && (is_operand b && (is_conjunction c && is_operand d)) then Some row.Conjunction
+    else (if is_left a && (is_operand b && (is_verb c && is_verb d)) then Some row.Fork
+    else (if is_edge a && (is_entity b && is_entity c) then Some row.Bident
+    else (if (is_name a || is_noun a) && (is_copula b && is_entity c) then Some row.Assignment
+    else (if is_open a && (is_entity b && is_close c) then Some row.Parentheses
+    else None))))))))
 
-abbrev pub row_of : List Entry → Option Row
+abbrev pub row_of : List Slot → Option Row
 row_of es = row_at (kind_at es 0) (kind_at es 1) (kind_at es 2) (kind_at es 3)
-
--- the first entry and the others, where it is of the kind
-abbrev pub Popped : Type 0 → Type 0
-Popped A = Result (A × List Entry) Fault
-
-abbrev pub popped : List Entry → Popped Entry
-popped [] = Err Syntax
-popped (e ∷ es) = Ok (e, es)
-
-abbrev pub popped_verb : List Entry → Popped Scalar
-popped_verb [] = Err Syntax
-popped_verb (Verb v ∷ es) = Ok (v, es)
-popped_verb (Mark ∷ es) = Err Syntax
-popped_verb (Noun y ∷ es) = Err Syntax
-
-abbrev pub popped_noun : List Entry → Popped Array
-popped_noun [] = Err Syntax
-popped_noun (Noun y ∷ es) = Ok (y, es)
-popped_noun (Mark ∷ es) = Err Syntax
-popped_noun (Verb v ∷ es) = Err Syntax

@@ -1,12 +1,14 @@
-//! Reads lines and evaluates sentences: so far of number lists and the verbs `+`, `-` and `*`.
+//! Evaluates sentences: words, trains and `@:` over number lists.
 #![tactic(auto)]
 
-mod display;
+mod applying;
 mod machine;
 mod outcome;
-mod prepared;
+mod sentence;
 mod stack;
+mod words;
 
+pub use j_entity::{Entity, Prepared};
+pub use j_explicit::{LineFault, prepare};
 pub use machine::Machine;
-pub use outcome::{Entity, Outcome};
-pub use prepared::{Item, LineFault, Prepared, prepare};
+pub use outcome::{Halt, Outcome};

@@ -1,22 +1,25 @@
 // The machine that evaluates sentences.
-ghost use Rattle.std.specs.Prelude.{◌≡◌, ◌≢◌, ◌≤◌, ◌+◌, ◌<◌, [], length, IfOk, OnOk, OnErr, IsErrOf, Result as ResultOf};
+ghost use Rattle.std.specs.Prelude.{◌≡◌, ◌≢◌, ◌≤◌, ◌+◌, ◌<◌, [], length, map, Some, None, IfOk, OnOk, OnErr, IsErrOf};
+ghost use Rattle.std.specs.Option.{option_copied};
 ghost use Rattle.j_definitions.specs.Array.{Array};
-ghost use Rattle.j_definitions.specs.declared.Fault.{Fault as FaultValue};
-ghost use Rattle.j_kernels.specs.Answered.{IsAnswered};
-ghost use Rattle.j_eval.specs.State.{Outcome as OutcomeOf, one_step, or_fault};
-ghost use Rattle.j_eval.specs.Meaning.{top, monad, dyad, reduced, finished, sentence, show, executed};
-ghost use Rattle.j_eval.specs.Meets.{Running, Answers, Stays, Meets, MeetsAt, Onward, ready, stack_of};
+ghost use Rattle.j_entity.specs.Tree.{EntityTree};
+ghost use Rattle.j_entity.specs.View.{entity_of, word_of};
+ghost use Rattle.j_eval.specs.State.{Outcome as OutcomeOf, one_step};
+ghost use Rattle.j_eval.specs.Applying.{call, nested};
+ghost use Rattle.j_eval.specs.Meaning.{top, show, executed, most_levels};
+ghost use Rattle.j_eval.specs.Meets.{Running, Answers, AnswersCall, Stays, StaysIn, Meets, MeetsAs, Onward, ready};
 
-use crate::display;
-use crate::outcome::{Entity, Halt, Outcome};
-use crate::prepared::{Item, Prepared};
-use crate::stack::{Entry, Row, entry_of, is_edge, kind_of, pop, pop_noun, pop_verb, push, row_of};
-use j_kernels as kernels;
-use j_noun::{Fault, NoMemory, Noun, Refusal, Scalar};
+use crate::outcome::{Halt, Outcome};
+use j_display as display;
+use j_entity::{Entity, Item, Prepared, Verb};
+use j_noun::{NoMemory, Noun, Refusal};
 use std::alloc::Global;
 use std::marker::Model;
 
 const MOST_SHOWN: usize = 67_108_864;
+
+/// The most levels of calls in a top sentence.
+pub(crate) const MOST_LEVELS: u32 = 1_000;
 
 #[derive(Clone, Copy, PartialEq, Eq, Debug)]
 enum Fitness {
@@ -94,15 +97,15 @@ impl Machine {
     }
 
     // What a sentence answers, and what that leaves the machine fit for.
-    fn settle(&mut self, outcome: Result<Noun, Halt>) -> Outcome
+    fn settle(&mut self, outcome: Result<Entity, Halt>) -> Outcome
         requires { self.old.readiness ≡ ready }
-        ensures answer { (o : OutcomeOf Array) → Meets outcome self.old o → Answers result self.new o }
+        ensures answer { (o : OutcomeOf EntityTree) → MeetsAs entity_of outcome self.old o → Answers result self.new o }
         ensures budget { self.new.state.budget ≡ self.old.state.budget }
         ensures steps { self.new.state.steps ≡ self.old.state.steps }
         ensures spent { result ≡ Outcome.Spent → IsErrOf outcome Halt.Spent }
     {
         match outcome {
-            Ok(y) => Outcome::Value(Entity::Noun(y)),
+            Ok(e) => Outcome::Value(e),
             Err(Halt::Failed(fault)) => Outcome::Failed(fault),
             Err(Halt::Spent) => {
                 self.fitness = Fitness::Spent;
@@ -116,26 +119,70 @@ impl Machine {
         }
     }
 
+    /// One call of a verb on a noun, which isn't a step itself.
+    pub fn apply_monad(&mut self, v: &Verb, y: &Noun) -> Result<Noun, Halt>
+        ensures answer { self.old.readiness ≡ ready → AnswersCall result self.new (call (nested most_levels) v.now None y.now self.old.state) }
+        ensures stays { StaysIn self.old.readiness result self.old self.new }
+    {
+        self.apply_to(v, None, y)
+    }
+
+    /// One call of a verb on two nouns, which isn't a step itself.
+    pub fn apply_dyad(&mut self, v: &Verb, x: &Noun, y: &Noun) -> Result<Noun, Halt>
+        ensures answer { self.old.readiness ≡ ready → AnswersCall result self.new (call (nested most_levels) v.now (Some x.now) y.now self.old.state) }
+        ensures stays { StaysIn self.old.readiness result self.old self.new }
+    {
+        self.apply_to(v, Some(x), y)
+    }
+
+    // A call of a verb, where the machine goes on.
+    fn apply_to(&mut self, v: &Verb, x: Option<&Noun>, y: &Noun) -> Result<Noun, Halt>
+        ensures answer { self.old.readiness ≡ ready → AnswersCall result self.new (call (nested most_levels) v.now (option_copied x.entry) y.now self.old.state) }
+        ensures stays { StaysIn self.old.readiness result self.old self.new }
+    {
+        match self.fitness {
+            Fitness::Ready => {
+                let answer = self.call(MOST_LEVELS, v, x, y);
+                self.settle_call(answer)
+            }
+            Fitness::Spent => Err(Halt::Spent),
+            Fitness::Exhausted => Err(Halt::NoMemory),
+        }
+    }
+
+    // What a call answers, and what that leaves the machine fit for.
+    fn settle_call(&mut self, answer: Result<Noun, Halt>) -> Result<Noun, Halt>
+        requires { self.old.readiness ≡ ready }
+        ensures { (o : OutcomeOf Array) → Meets answer self.old o → AnswersCall result self.new o }
+    {
+        match answer {
+            Err(Halt::Spent) => self.fitness = Fitness::Spent,
+            Err(Halt::NoMemory) => self.fitness = Fitness::Exhausted,
+            _ => {}
+        }
+        answer
+    }
+
     // Evaluates a sentence and shows its value.
-    fn execute(&mut self, items: &[Item]) -> Result<Noun, Halt>
+    fn execute(&mut self, items: &[Item]) -> Result<Entity, Halt>
         requires { length self.old.state.shown ≤ 67108864 }
-        ensures gives { Meets result self.new (executed items.now self.old.state) }
+        ensures gives { MeetsAs entity_of result self.new (executed (nested most_levels) (map word_of items.now) self.old.state) }
         ensures budget { self.new.state.budget ≡ self.old.state.budget }
         ensures most { self.new.state.steps ≤ self.old.state.steps + length items.now + 1 }
         ensures spent { IsErrOf result Halt.Spent → self.old.state.budget < self.old.state.steps + length items.now + 1 }
         ensures readiness { self.new.readiness ≡ self.old.readiness }
     {
-        let y = self.evaluate(items)?;
-        self.show(&y)?;
-        Ok(y)
+        let e = self.evaluate(items)?;
+        self.show(&e)?;
+        Ok(e)
     }
 
-    fn alloc(&self) -> Global {
+    pub(crate) fn alloc(&self) -> Global {
         self.alloc
     }
 
     // Counts a step.
-    fn tick(&mut self) -> Result<(), Halt>
+    pub(crate) fn tick(&mut self) -> Result<(), Halt>
         ensures gives { Meets result self.new (one_step self.old.state) }
         ensures onward { Onward self.old self.new }
         ensures counted { OnOk result (self.new.state.steps ≡ self.old.state.steps + 1) }
@@ -151,131 +198,20 @@ impl Machine {
         }
     }
 
-    // Shows a noun.
-    fn show(&mut self, y: &Noun) -> Result<(), Halt>
+    // Shows a value.
+    fn show(&mut self, e: &Entity) -> Result<(), Halt>
         requires { length self.old.state.shown ≤ 67108864 }
-        ensures gives { Meets result self.new (show y.now self.old.state) }
+        ensures gives { Meets result self.new (show (entity_of e.now) self.old.state) }
         ensures budget { self.new.state.budget ≡ self.old.state.budget }
         ensures steps { self.new.state.steps ≡ self.old.state.steps }
         ensures unspent { IsErrOf result Halt.Spent → ⊥ }
         ensures readiness { self.new.readiness ≡ self.old.readiness }
     {
         let room = MOST_SHOWN - self.shown.len();
-        match display::show(y, room, &mut self.shown) {
+        match display::show(e, room, &mut self.shown) {
             Ok(()) => Ok(()),
             Err(Refusal::Fault(fault)) => Err(Halt::Failed(fault)),
             Err(Refusal::NoMemory) => Err(Halt::NoMemory),
         }
-    }
-
-    // A verb on one noun.
-    fn monad(&mut self, v: Scalar, y: &Noun) -> Result<Noun, Halt>
-        ensures gives { Meets result self.new (monad v y.now self.old.state) }
-        ensures unspent { IsErrOf result Halt.Spent → ⊥ }
-        ensures same { self.new ≡ self.old }
-    {
-        applied(kernels::monad(v, self.alloc(), y))
-    }
-
-    // A verb on two nouns.
-    fn dyad(&mut self, v: Scalar, x: &Noun, y: &Noun) -> Result<Noun, Halt>
-        ensures gives { Meets result self.new (dyad v x.now y.now self.old.state) }
-        ensures unspent { IsErrOf result Halt.Spent → ⊥ }
-        ensures same { self.new ≡ self.old }
-    {
-        applied(kernels::dyad(v, self.alloc(), x, y))
-    }
-
-    // What a row does with the first entries.
-    fn reduce(&mut self, row: Row, stack: &mut Vec<Entry>) -> Result<(), Halt>
-        ensures gives { MeetsAt (stack_of stack.new.items) result self.new (reduced row (stack_of stack.old.items) self.old.state) }
-        ensures shorter { OnOk result ((0 < length stack.new.items) × (length stack.new.items < length stack.old.items)) }
-        ensures unspent { IsErrOf result Halt.Spent → ⊥ }
-        ensures same { self.new ≡ self.old }
-    {
-        match row {
-            Row::Monad => {
-                let a = pop(stack)?;
-                let v = pop_verb(stack)?;
-                let y = pop_noun(stack)?;
-                let r = self.monad(v, &y)?;
-                push(stack, Entry::Noun(r))?;
-                push(stack, a)
-            }
-            Row::MonadRight => {
-                let a = pop(stack)?;
-                let b = pop(stack)?;
-                let v = pop_verb(stack)?;
-                let y = pop_noun(stack)?;
-                let r = self.monad(v, &y)?;
-                push(stack, Entry::Noun(r))?;
-                push(stack, b)?;
-                push(stack, a)
-            }
-            Row::Dyad => {
-                let a = pop(stack)?;
-                let x = pop_noun(stack)?;
-                let v = pop_verb(stack)?;
-                let y = pop_noun(stack)?;
-                let r = self.dyad(v, &x, &y)?;
-                push(stack, Entry::Noun(r))?;
-                push(stack, a)
-            }
-        }
-    }
-
-    // The value of a sentence.
-    fn evaluate(&mut self, items: &[Item]) -> Result<Noun, Halt>
-        ensures gives { Meets result self.new (sentence items.now self.old.state) }
-        ensures onward { Onward self.old self.new }
-        ensures shown { self.new.state.shown ≡ self.old.state.shown }
-        ensures most { self.new.state.steps ≤ self.old.state.steps + length items.now + 1 }
-        ensures spent { IsErrOf result Halt.Spent → self.old.state.budget < self.old.state.steps + length items.now + 1 }
-        ensures readiness { self.new.readiness ≡ self.old.readiness }
-    {
-        self.tick()?;
-        let mut stack = Vec::new(self.alloc());
-        let mut left = items;
-        let mut marked = false;
-        'turns: loop {
-            if let Some(row) = row_of(&stack) {
-                self.tick()?;
-                self.reduce(row, &mut stack)?;
-            } else if let Some((item, rest)) = left.split_last() {
-                push(&mut stack, entry_of(item)?)?;
-                left = rest;
-            } else if !marked {
-                push(&mut stack, Entry::Mark)?;
-                marked = true;
-            } else {
-                return finished(stack);
-            }
-        }
-    }
-}
-
-// At the end the stack is the start mark and one noun.
-fn finished(mut stack: Vec<Entry>) -> Result<Noun, Halt>
-    ensures gives { (m : Running) → Meets result m (finished (stack_of stack.items) m.state) }
-    ensures unspent { IsErrOf result Halt.Spent → ⊥ }
-{
-    let mark = pop(&mut stack)?;
-    let y = pop_noun(&mut stack)?;
-    if is_edge(kind_of(&mark)) && stack.is_empty() {
-        Ok(y)
-    } else {
-        Err(Halt::Failed(Fault::Syntax))
-    }
-}
-
-// What a verb answers, as a part of a run.
-fn applied(answer: Result<Noun, Refusal>) -> Result<Noun, Halt>
-    ensures gives { (m : Running) (r : ResultOf Array FaultValue) → IsAnswered r answer → Meets result m (or_fault r m.state) }
-    ensures unspent { IsErrOf result Halt.Spent → ⊥ }
-{
-    match answer {
-        Ok(y) => Ok(y),
-        Err(Refusal::Fault(fault)) => Err(Halt::Failed(fault)),
-        Err(Refusal::NoMemory) => Err(Halt::NoMemory),
     }
 }

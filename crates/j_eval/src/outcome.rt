@@ -1,11 +1,9 @@
 // What a run answers.
-use j_noun::{Fault, Noun};
+ghost use Rattle.std.specs.Prelude.{◌≡◌};
+ghost use Rattle.j_eval.specs.declared.outcome.Halt.TheVariants.{NoMemory as HaltMemory};
 
-/// What a sentence gives: so far a noun.
-#[derive(Drop)]
-pub enum Entity {
-    Noun(Noun),
-}
+use j_entity::Entity;
+use j_noun::{Fault, NoMemory};
 
 /// What a top sentence answers.
 #[derive(Drop)]
@@ -22,4 +20,12 @@ pub enum Halt {
     Failed(Fault),
     Spent,
     NoMemory,
+}
+
+impl From<NoMemory> for Halt {
+    ghost from_gives = { λ _ e. e ≡ HaltMemory };
+
+    fn from(_e: NoMemory) -> Halt {
+        Halt::NoMemory
+    }
 }

@@ -1,27 +1,34 @@
 // The stack of a sentence. Its first entry, the leftmost, is last in the vector.
 ghost use Rattle.std.specs.Prelude.{◌≡◌, ◌+◌, ◌∷◌, length};
-ghost use Rattle.j_eval.specs.Table.{kind_of, kind_at, is_edge, is_left, is_verb, is_noun, row_at, row_of, popped, popped_verb, popped_noun};
-ghost use Rattle.j_eval.specs.Meaning.{entry_of};
-ghost use Rattle.j_eval.specs.Meets.{stack_of, NoMemoryOr, Pops};
+ghost use Rattle.j_entity.specs.Tree.{entity as entity_word};
+ghost use Rattle.j_entity.specs.View.{operand_of, word_of, entity_of};
+ghost use Rattle.j_eval.specs.Table.{kind_of, kind_at, entity_kind, word_kind, is_start, is_copula, is_open, is_close, is_noun, is_verb, is_adverb, is_conjunction, is_name, is_edge, is_operand, is_left, is_entity, row_at, row_of, Word};
+ghost use Rattle.j_eval.specs.Stack.{slot_of, stack_of, popped, popped_word, popped_noun, popped_verb, popped_operand, popped_adverb, popped_conjunction};
+ghost use Rattle.j_eval.specs.Meets.{NoMemoryOr, Pops, PopsAs};
 
 use crate::outcome::Halt;
-use crate::prepared::Item;
-use j_noun::{Fault, Noun, Scalar};
+use j_entity::{Entity, Item, Operand, Operator, Verb};
+use j_noun::{Fault, Noun};
 
-/// An entry of the stack.
+/// An entry of the stack: the start mark or a word.
 #[derive(Drop)]
 pub enum Entry {
-    Mark,
-    Noun(Noun),
-    Verb(Scalar),
+    Start,
+    Word(Item),
 }
 
 /// What the table's rows look at.
 #[derive(Clone, Copy, PartialEq, Eq, Debug)]
 pub enum EntryKind {
-    Edge,
+    Start,
+    Copula,
+    Open,
+    Close,
     Noun,
     Verb,
+    Adverb,
+    Conjunction,
+    Name,
     Nothing,
 }
 
@@ -31,15 +38,44 @@ pub enum Row {
     Monad,
     MonadRight,
     Dyad,
+    Adverb,
+    Conjunction,
+    Fork,
+    Bident,
+    Assignment,
+    Parentheses,
+}
+
+fn entity_kind(entity: &Entity) -> EntryKind
+    ensures { result ≡ entity_kind (entity_of entity.now) }
+{
+    match entity {
+        Entity::Noun(_) => EntryKind::Noun,
+        Entity::Verb(_) => EntryKind::Verb,
+        Entity::Adverb(_) => EntryKind::Adverb,
+        Entity::Conjunction(_) => EntryKind::Conjunction,
+    }
+}
+
+fn word_kind(word: &Item) -> EntryKind
+    ensures { result ≡ word_kind (word_of word.now) }
+{
+    match word {
+        Item::Entity(entity) => entity_kind(entity),
+        Item::Ranks(_) => EntryKind::Noun,
+        Item::Name(_) => EntryKind::Name,
+        Item::Local | Item::Global => EntryKind::Copula,
+        Item::Open => EntryKind::Open,
+        Item::Close => EntryKind::Close,
+    }
 }
 
 pub fn kind_of(entry: &Entry) -> EntryKind
-    ensures { result ≡ kind_of entry.now }
+    ensures { result ≡ kind_of (slot_of entry.now) }
 {
     match entry {
-        Entry::Mark => EntryKind::Edge,
-        Entry::Noun(_) => EntryKind::Noun,
-        Entry::Verb(_) => EntryKind::Verb,
+        Entry::Start => EntryKind::Start,
+        Entry::Word(word) => word_kind(word),
     }
 }
 
@@ -58,10 +94,10 @@ fn kind_at(stack: &[Entry], k: u32) -> EntryKind
     }
 }
 
-pub fn is_edge(k: EntryKind) -> bool
-    ensures { result ≡ is_edge k }
+fn is_noun(k: EntryKind) -> bool
+    ensures { result ≡ is_noun k }
 {
-    matches!(k, EntryKind::Edge)
+    matches!(k, EntryKind::Noun)
 }
 
 fn is_verb(k: EntryKind) -> bool
@@ -70,16 +106,70 @@ fn is_verb(k: EntryKind) -> bool
     matches!(k, EntryKind::Verb)
 }
 
-fn is_noun(k: EntryKind) -> bool
-    ensures { result ≡ is_noun k }
+fn is_adverb(k: EntryKind) -> bool
+    ensures { result ≡ is_adverb k }
 {
-    matches!(k, EntryKind::Noun)
+    matches!(k, EntryKind::Adverb)
+}
+
+fn is_conjunction(k: EntryKind) -> bool
+    ensures { result ≡ is_conjunction k }
+{
+    matches!(k, EntryKind::Conjunction)
+}
+
+fn is_copula(k: EntryKind) -> bool
+    ensures { result ≡ is_copula k }
+{
+    matches!(k, EntryKind::Copula)
+}
+
+fn is_open(k: EntryKind) -> bool
+    ensures { result ≡ is_open k }
+{
+    matches!(k, EntryKind::Open)
+}
+
+fn is_close(k: EntryKind) -> bool
+    ensures { result ≡ is_close k }
+{
+    matches!(k, EntryKind::Close)
+}
+
+pub fn is_name(k: EntryKind) -> bool
+    ensures { result ≡ is_name k }
+{
+    matches!(k, EntryKind::Name)
+}
+
+pub fn is_start(k: EntryKind) -> bool
+    ensures { result ≡ is_start k }
+{
+    matches!(k, EntryKind::Start)
+}
+
+fn is_edge(k: EntryKind) -> bool
+    ensures { result ≡ is_edge k }
+{
+    is_start(k) || is_copula(k) || is_open(k)
+}
+
+fn is_operand(k: EntryKind) -> bool
+    ensures { result ≡ is_operand k }
+{
+    is_noun(k) || is_verb(k)
 }
 
 fn is_left(k: EntryKind) -> bool
     ensures { result ≡ is_left k }
 {
-    matches!(k, EntryKind::Edge | EntryKind::Verb | EntryKind::Noun)
+    is_edge(k) || is_adverb(k) || is_operand(k)
+}
+
+pub fn is_entity(k: EntryKind) -> bool
+    ensures { result ≡ is_entity k }
+{
+    is_conjunction(k) || is_adverb(k) || is_operand(k)
 }
 
 fn row_at(a: EntryKind, b: EntryKind, c: EntryKind, d: EntryKind) -> Option<Row>
@@ -93,6 +183,24 @@ fn row_at(a: EntryKind, b: EntryKind, c: EntryKind, d: EntryKind) -> Option<Row>
     }
     if is_left(a) && is_noun(b) && is_verb(c) && is_noun(d) {
         return Some(Row::Dyad);
+    }
+    if is_left(a) && is_operand(b) && is_adverb(c) {
+        return Some(Row::Adverb);
+    }
+    if is_left(a) && is_operand(b) && is_conjunction(c) && is_operand(d) {
+        return Some(Row::Conjunction);
+    }
+    if is_left(a) && is_operand(b) && is_verb(c) && is_verb(d) {
+        return Some(Row::Fork);
+    }
+    if is_edge(a) && is_entity(b) && is_entity(c) {
+        return Some(Row::Bident);
+    }
+    if (is_name(a) || is_noun(a)) && is_copula(b) && is_entity(c) {
+        return Some(Row::Assignment);
+    }
+    if is_open(a) && is_entity(b) && is_close(c) {
+        return Some(Row::Parentheses);
     }
     None
 }
@@ -109,21 +217,8 @@ pub fn row_of(stack: &[Entry]) -> Option<Row>
     )
 }
 
-/// An item as it is moved to the stack.
-pub fn entry_of(item: &Item) -> Result<Entry, Halt>
-    ensures { NoMemoryOr result (λ e. e ≡ entry_of item.now) }
-{
-    match item {
-        Item::Noun(y) => match y.duplicate() {
-            Ok(y) => Ok(Entry::Noun(y)),
-            Err(_) => Err(Halt::NoMemory),
-        },
-        Item::Verb(v) => Ok(Entry::Verb(*v)),
-    }
-}
-
 pub fn push(stack: &mut Vec<Entry>, entry: Entry) -> Result<(), Halt>
-    ensures { NoMemoryOr result (λ _. (stack_of stack.new.items ≡ entry ∷ stack_of stack.old.items) × (length stack.new.items ≡ length stack.old.items + 1)) }
+    ensures { NoMemoryOr result (λ _. (stack_of stack.new.items ≡ slot_of entry ∷ stack_of stack.old.items) × (length stack.new.items ≡ length stack.old.items + 1)) }
 {
     match stack.push(entry) {
         Ok(()) => Ok(()),
@@ -131,17 +226,38 @@ pub fn push(stack: &mut Vec<Entry>, entry: Entry) -> Result<(), Halt>
     }
 }
 
+/// A word as it is moved to the stack.
+pub fn copied(word: &Item) -> Result<Item, Halt>
+    ensures { NoMemoryOr result (λ w. word_of w ≡ word_of word.now) }
+{
+    match word {
+        Item::Entity(e) => Ok(Item::Entity(e.duplicate()?)),
+        Item::Ranks(l) => Ok(Item::Ranks(l.duplicate()?)),
+        Item::Name(n) => Ok(Item::Name(n.duplicate()?)),
+        Item::Local => Ok(Item::Local),
+        Item::Global => Ok(Item::Global),
+        Item::Open => Ok(Item::Open),
+        Item::Close => Ok(Item::Close),
+    }
+}
+
+pub fn push_entity(stack: &mut Vec<Entry>, entity: Entity) -> Result<(), Halt>
+    ensures { NoMemoryOr result (λ _. (stack_of stack.new.items ≡ Word (entity_word (entity_of entity)) ∷ stack_of stack.old.items) × (length stack.new.items ≡ length stack.old.items + 1)) }
+{
+    push(stack, Entry::Word(Item::Entity(entity)))
+}
+
 pub fn pop(stack: &mut Vec<Entry>) -> Result<Entry, Halt>
-    ensures { Pops result stack.old stack.new (popped (stack_of stack.old.items)) }
+    ensures { PopsAs slot_of result stack.old stack.new (popped (stack_of stack.old.items)) }
 {
     stack.pop().ok_or(Halt::Failed(Fault::Syntax))
 }
 
-pub fn pop_verb(stack: &mut Vec<Entry>) -> Result<Scalar, Halt>
-    ensures { Pops result stack.old stack.new (popped_verb (stack_of stack.old.items)) }
+pub fn pop_word(stack: &mut Vec<Entry>) -> Result<Item, Halt>
+    ensures { PopsAs word_of result stack.old stack.new (popped_word (stack_of stack.old.items)) }
 {
     match stack.pop() {
-        Some(Entry::Verb(v)) => Ok(v),
+        Some(Entry::Word(word)) => Ok(word),
         _ => Err(Halt::Failed(Fault::Syntax)),
     }
 }
@@ -150,7 +266,45 @@ pub fn pop_noun(stack: &mut Vec<Entry>) -> Result<Noun, Halt>
     ensures { Pops result stack.old stack.new (popped_noun (stack_of stack.old.items)) }
 {
     match stack.pop() {
-        Some(Entry::Noun(y)) => Ok(y),
+        Some(Entry::Word(Item::Entity(Entity::Noun(y)))) => Ok(y),
+        _ => Err(Halt::Failed(Fault::Syntax)),
+    }
+}
+
+pub fn pop_verb(stack: &mut Vec<Entry>) -> Result<Verb, Halt>
+    ensures { Pops result stack.old stack.new (popped_verb (stack_of stack.old.items)) }
+{
+    match stack.pop() {
+        Some(Entry::Word(Item::Entity(Entity::Verb(v)))) => Ok(v),
+        _ => Err(Halt::Failed(Fault::Syntax)),
+    }
+}
+
+pub fn pop_operand(stack: &mut Vec<Entry>) -> Result<Operand, Halt>
+    ensures { PopsAs operand_of result stack.old stack.new (popped_operand (stack_of stack.old.items)) }
+{
+    match stack.pop() {
+        Some(Entry::Word(Item::Entity(Entity::Noun(y)))) => Ok(Operand::Noun(y)),
+        Some(Entry::Word(Item::Entity(Entity::Verb(v)))) => Ok(Operand::Verb(v)),
+        Some(Entry::Word(Item::Ranks(l))) => Ok(Operand::Ranks(l)),
+        _ => Err(Halt::Failed(Fault::Syntax)),
+    }
+}
+
+pub fn pop_adverb(stack: &mut Vec<Entry>) -> Result<Operator, Halt>
+    ensures { Pops result stack.old stack.new (popped_adverb (stack_of stack.old.items)) }
+{
+    match stack.pop() {
+        Some(Entry::Word(Item::Entity(Entity::Adverb(a)))) => Ok(a),
+        _ => Err(Halt::Failed(Fault::Syntax)),
+    }
+}
+
+pub fn pop_conjunction(stack: &mut Vec<Entry>) -> Result<Operator, Halt>
+    ensures { Pops result stack.old stack.new (popped_conjunction (stack_of stack.old.items)) }
+{
+    match stack.pop() {
+        Some(Entry::Word(Item::Entity(Entity::Conjunction(c)))) => Ok(c),
         _ => Err(Halt::Failed(Fault::Syntax)),
     }
 }
