@@ -1,14 +1,8 @@
 -- What contracts see of names.
 use Rattle.std.specs.Prelude.{◌≡◌, ℕ, ◌∷◌, ◌++◌, List, [], true}
-use Rattle.j_words.specs.Names.{is_simple, is_direct, is_object}
+use Rattle.j_words.specs.Names.{is_simple}
 use Rattle.j_leaves.specs.declared.name.Place.{Place}
 use Rattle.j_leaves.specs.declared.name.Place.TheVariants.{Here, Locale, Object}
-use Rattle.j_leaves.specs.declared.name.Held.{Held}
-use Rattle.j_leaves.specs.declared.name.Held.TheVariants.{Own, Shared}
-
-abbrev pub bytes_held : Held → List ℕ
-bytes_held (Own v) = v.items
-bytes_held (Shared v) = v.value.items
 
 pub record NameParts : Type 0 where
   pub base : List ℕ

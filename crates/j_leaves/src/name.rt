@@ -19,7 +19,7 @@ impl Model for Text {
 
     ghost Value = { List ℕ };
 
-    ghost use Rattle.j_leaves.specs.Names.{bytes_held};
+    ghost use Rattle.j_leaves.specs.Texts.{bytes_held};
 
     ghost view = { λ t. bytes_held t.held };
 }
