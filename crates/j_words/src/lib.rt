@@ -9,6 +9,7 @@ mod rows;
 mod vocabulary;
 
 pub use line::{spans, words};
+pub use names::{NameForm, name_form};
 pub use rows::{name_laws, text_laws, worked_rows};
 
 /// What a word is.
