@@ -1,5 +1,5 @@
 -- A word has one meaning, and each meaning its word.
-use Rattle.std.proofs.Common.{◌≡◌, ◌↔◌, ℕ, Bool, true, false, cond, List, [], ◌∷◌, Option, Some, None, refl, subst, arith, ◌∙◌, ap, IsTrue, find, bytes_eq}
+use Rattle.std.proofs.Common.{◌≡◌, ◌↔◌, ℕ, Bool, true, cond, List, [], ◌∷◌, Some, None, refl, subst, arith, ◌∙◌, ap, IsTrue, find, bytes_eq}
 use Rattle.std.specs.List.{list_all}
 use Rattle.std.proofs.lemmas.Slice.Eq.{bytes_eq-Decides}
 use Rattle.j_leaves.specs.Spelling.{spelled_of, primitive_spelling, primitive_words, is_primitive_word, modifier_spelling, modifier_words}

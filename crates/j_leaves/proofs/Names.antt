@@ -1,9 +1,9 @@
 -- A name is read from its bytes, and its bytes are those it was read from.
-use Rattle.std.proofs.Common.{◌≡◌, ◌↔◌, ℕ, suc, ◌+◌, ◌-◌, ◌<◌, ◌≤◌, ◌==◌, ◌&&◌, Bool, true, false, cond, nat_lt, List, [], ◌∷◌, ◌++◌, length, take, drop, Option, Some, None, option_map, refl, sym, ap, ◌∙◌, subst, length-append, arith}
+use Rattle.std.proofs.Common.{◌≡◌, ℕ, suc, ◌+◌, ◌-◌, ◌<◌, ◌≤◌, ◌==◌, ◌&&◌, Bool, true, false, cond, nat_lt, List, [], ◌∷◌, ◌++◌, length, take, drop, Option, Some, None, option_map, refl, sym, ap, ◌∙◌, subst, length-append, arith}
 use Rattle.std.proofs.lemmas.Bool.{and_parts, eqb-true, ltb-true}
 use Rattle.std.proofs.lemmas.List.{take_at, take-take, length-take}
-use Rattle.j_words.specs.Names.{begins_low, has_name_bytes, double_at, low_here, last_low, ends_low, is_simple, has_locale, is_direct, is_object}
-use Rattle.j_words.specs.NameForms.{name_form, EndsWithin}
+use Rattle.j_words.specs.Names.{has_name_bytes, double_at, low_here, last_low, ends_low, is_simple, has_locale, is_direct, is_object}
+use Rattle.j_words.specs.NameForms.{name_form}
 use Rattle.j_words.specs.declared.names.NameForm.{NameForm}
 use Rattle.j_words.specs.declared.names.NameForm.TheVariants as form
 use Rattle.j_leaves.specs.declared.name.Place.{Place}
