@@ -1,0 +1,8 @@
+//! Forms verbs and operators of entities that stand side by side: rows 3 to 6 of the parsing table.
+#![tactic(auto)]
+
+mod modifiers;
+mod trains;
+
+pub use modifiers::{adverb, conjunction};
+pub use trains::{bident, fork};
