@@ -1,12 +1,11 @@
--- What the calls that form entities answer.
+-- What the calls that form verbs and operators answer.
 use Rattle.std.specs.Prelude.{◌≡◌, Result, Ok, Err}
 use Rattle.j_definitions.specs.declared.Fault.{Fault}
 use Rattle.j_noun.specs.declared.refusal.Refusal.{Refusal}
 use Rattle.j_noun.specs.declared.refusal.Refusal.TheVariants.{Fault as RefusedFault, NoMemory}
-use Rattle.j_entity.specs.Tree.{VerbTree, OperandTree, EntityTree}
-use Rattle.j_entity.specs.View.{entity_of, operand_of}
+use Rattle.j_entity.specs.Tree.{VerbTree, EntityTree}
+use Rattle.j_entity.specs.View.{entity_of}
 use Rattle.j_entity.specs.declared.entity.Verb.{Verb}
-use Rattle.j_entity.specs.declared.entity.Operand.{Operand}
 use Rattle.j_entity.specs.declared.entity.Entity.{Entity}
 
 -- the entity or the fault, or memory was wanting
@@ -20,9 +19,3 @@ abbrev pub IsFormedVerb : Result VerbTree Fault → Result Verb Refusal → Type
 IsFormedVerb r (Ok v) = r ≡ Ok v
 IsFormedVerb r (Err NoMemory) = Unit {0}
 IsFormedVerb r (Err (RefusedFault e)) = r ≡ Err e
-
--- the same of an operand
-abbrev pub IsOperandAgain : Result OperandTree Fault → Result Operand Refusal → Type 0
-IsOperandAgain r (Ok u) = r ≡ Ok (operand_of u)
-IsOperandAgain r (Err NoMemory) = ⊥
-IsOperandAgain r (Err (RefusedFault e)) = r ≡ Err e

@@ -2,7 +2,9 @@
 #![tactic(auto)]
 
 mod modifiers;
+mod rows;
 mod trains;
 
 pub use modifiers::{adverb, conjunction};
+pub use rows::{height_laws, train_laws, worked_rows};
 pub use trains::{bident, fork};

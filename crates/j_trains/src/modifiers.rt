@@ -1,7 +1,8 @@
 // Adverbs and conjunctions with their operands.
+ghost use Rattle.std.specs.Prelude.{◌≡◌, MatchResult};
 ghost use Rattle.j_entity.specs.View.{operand_of, entity_of};
 ghost use Rattle.j_trains.specs.Form.{at_of, word_conjunction, conjunction_of, operand_again, adverb_of};
-ghost use Rattle.j_trains.specs.Formed.{IsFormed, IsOperandAgain};
+ghost use Rattle.j_trains.specs.Formed.{IsFormed};
 
 use crate::trains::form;
 use j_entity::{Entity, Operand, Operator, OperatorTree, Parts};
@@ -46,13 +47,13 @@ pub fn conjunction(alloc: Global, c: &Operator, u: Operand, v: Operand) -> Resul
 }
 
 /// What an adverb gave, as the operand of the next one.
-fn operand(given: Entity) -> Result<Operand, Refusal>
-    ensures { IsOperandAgain (operand_again (entity_of given)) result }
+fn operand(given: Entity) -> Result<Operand, Fault>
+    ensures { let again = operand_again (entity_of given) in MatchResult result (λ u. again ≡ Ok (operand_of u)) (λ e. again ≡ Err e) }
 {
     match given {
         Entity::Verb(v) => Ok(Operand::Verb(v)),
         Entity::Noun(n) => Ok(Operand::Noun(n)),
-        _ => Err(Refusal::Fault(Fault::Domain)),
+        _ => Err(Fault::Domain),
     }
 }
 
