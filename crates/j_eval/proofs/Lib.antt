@@ -1,5 +1,2 @@
-pub mod Lists
-pub mod Items
-pub mod Rows
 pub mod Runs
 pub mod Sentences

@@ -9,6 +9,5 @@ mod stack;
 mod words;
 
 pub use j_entity::{Entity, Prepared};
-pub use j_explicit::{LineFault, prepare};
 pub use machine::Machine;
 pub use outcome::{Halt, Outcome};
