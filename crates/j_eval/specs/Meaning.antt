@@ -4,6 +4,7 @@ use Rattle.j_definitions.specs.Array.{Array}
 use Rattle.j_definitions.specs.declared.Fault.{Fault}
 use Rattle.j_definitions.specs.declared.Fault.TheVariants.{Syntax, Limit, Domain, Nonce}
 use Rattle.j_display.specs.Display.{rows}
+use Rattle.j_noun.specs.declared.ranks.RankPart.{RankPart}
 use Rattle.j_entity.specs.Tree.{EntityTree, WordTree, a_noun, a_verb, an_adverb, a_conjunction, right, rank_list, entity, ranks_word, name, local_copula, global_copula, open_mark, close_mark}
 use Rattle.j_trains.specs.Form.{fork_of, bident_of, adverb_of, conjunction_of, formed_adverb}
 use Rattle.j_eval.specs.declared.stack.Row.{Row}
@@ -13,11 +14,23 @@ use Rattle.j_eval.specs.Stack.{popped, popped_word, popped_noun, popped_verb, po
 use Rattle.j_eval.specs.State.{Gave, Erred, Run, ◌>>=◌, pure, fail, counted, or_fault, Unit0}
 use Rattle.j_eval.specs.Table.{Slot, Start, Word, row_of, is_start, is_name, is_entity, kind_of}
 
--- two words at an edge; a conjunction takes a rank list on its right
+-- a conjunction and a rank list right of it
+abbrev pub ranked : EntityTree → List RankPart → Result EntityTree Fault
+ranked (a_conjunction c) l = formed_adverb (right c (rank_list l))
+ranked (a_noun y) l = Err Syntax
+ranked (a_verb v) l = Err Syntax
+ranked (an_adverb a) l = Err Syntax
+
+-- an entity and a word right of it
+abbrev pub entity_bident : EntityTree → WordTree → Result EntityTree Fault
+entity_bident a (entity b) = bident_of a b
+entity_bident a (ranks_word l) = ranked a l
+entity_bident a w = Err Syntax
+
+-- two words alone
 abbrev pub bident_words : WordTree → WordTree → Result EntityTree Fault
-bident_words (entity a) (entity b) = bident_of a b
-bident_words (entity (a_conjunction c)) (ranks_word l) = formed_adverb (right c (rank_list l))
-bident_words a b = Err Syntax
+bident_words (entity a) w = entity_bident a w
+bident_words v w = Err Syntax
 
 -- Names aren't assigned yet, and numbers are no names.
 abbrev pub unassigned : Bool → Fault
@@ -93,17 +106,16 @@ abbrev pub is_nil : List Slot → Bool
 is_nil [] = true
 is_nil (e ∷ es) = false
 
--- the entity of a word, where it is one
-abbrev pub entity_alone : Bool → WordTree → Run EntityTree
-entity_alone true (entity e) = pure e
-entity_alone alone w = fail Syntax
+abbrev pub entity_in : WordTree → Run EntityTree
+entity_in (entity e) = pure e
+entity_in w = fail Syntax
 
 -- At the end the stack is the start mark and one entity.
 abbrev pub finished : List Slot → Run EntityTree
 finished es = do
   m ← or_fault (popped es)
   w ← or_fault (popped_word m.1)
-  entity_alone (is_start (kind_of m.0) && is_nil w.1) w.0
+  (if is_start (kind_of m.0) && is_nil w.1 then entity_in w.0 else fail Syntax)
 
 -- The first row that matches is executed; where none does, the next entry is moved from the queue. The number bounds how often.
 abbrev pub parsed : ℕ → Calls → List Slot → List Slot → Run EntityTree

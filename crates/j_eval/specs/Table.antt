@@ -1,5 +1,5 @@
 -- The parsing table: nine rows over the first four entries of the stack.
-use Rattle.std.specs.Prelude.{ℕ, zero, suc, ◌&&◌, ◌||◌, Bool, true, false, List, [], ◌∷◌, Option, Some, None, if◌then◌else◌}
+use Rattle.std.specs.Prelude.{ℕ, zero, suc, ◌&&◌, ◌||◌, Bool, true, false, List, [], ◌∷◌, find, Option}
 use Rattle.j_entity.specs.Tree.{EntityTree, WordTree, a_noun, a_verb, an_adverb, a_conjunction, entity, ranks_word, name, local_copula, global_copula, open_mark, close_mark}
 use Rattle.j_eval.specs.declared.stack.EntryKind.{EntryKind}
 use Rattle.j_eval.specs.declared.stack.EntryKind.TheVariants as kind
@@ -89,19 +89,24 @@ is_left k = is_edge k || (is_adverb k || is_operand k)
 abbrev pub is_entity : EntryKind → Bool
 is_entity k = is_conjunction k || (is_adverb k || is_operand k)
 
+-- what each row asks of the first four entries
+abbrev pub fits : EntryKind → EntryKind → EntryKind → EntryKind → Row → Bool
+fits a b c d row.Monad = is_edge a && (is_verb b && is_noun c)
+fits a b c d row.MonadRight = is_left a && (is_verb b && (is_verb c && is_noun d))
+fits a b c d row.Dyad = is_left a && (is_noun b && (is_verb c && is_noun d))
+fits a b c d row.Adverb = is_left a && (is_operand b && is_adverb c)
+fits a b c d row.Conjunction = is_left a && (is_operand b && (is_conjunction c && is_operand d))
+fits a b c d row.Fork = is_left a && (is_operand b && (is_verb c && is_verb d))
+fits a b c d row.Bident = is_edge a && (is_entity b && is_entity c)
+fits a b c d row.Assignment = (is_name a || is_noun a) && (is_copula b && is_entity c)
+fits a b c d row.Parentheses = is_open a && (is_entity b && is_close c)
+
+abbrev pub table : List Row
+table = row.Monad ∷ row.MonadRight ∷ row.Dyad ∷ row.Adverb ∷ row.Conjunction ∷ row.Fork ∷ row.Bident ∷ row.Assignment ∷ row.Parentheses ∷ []
+
 -- The first row that matches.
 abbrev pub row_at : EntryKind → EntryKind → EntryKind → EntryKind → Option Row
-row_at a b c d =
-    if is_edge a && (is_verb b && is_noun c) then Some row.Monad
-    else (if is_left a && (is_verb b && (is_verb c && is_noun d)) then Some row.MonadRight
-    else (if is_left a && (is_noun b && (is_verb c && is_noun d)) then Some row.Dyad
-    else (if is_left a && (is_operand b && is_adverb c) then Some row.Adverb
-    else (if is_left a && (is_operand b && (is_conjunction c && is_operand d)) then Some row.Conjunction
-    else (if is_left a && (is_operand b && (is_verb c && is_verb d)) then Some row.Fork
-    else (if is_edge a && (is_entity b && is_entity c) then Some row.Bident
-    else (if (is_name a || is_noun a) && (is_copula b && is_entity c) then Some row.Assignment
-    else (if is_open a && (is_entity b && is_close c) then Some row.Parentheses
-    else None))))))))
+row_at a b c d = find (fits a b c d) table
 
 abbrev pub row_of : List Slot → Option Row
 row_of es = row_at (kind_at es 0) (kind_at es 1) (kind_at es 2) (kind_at es 3)

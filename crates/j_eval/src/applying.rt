@@ -1,5 +1,5 @@
 // The application of verbs.
-ghost use Rattle.std.specs.Prelude.{◌≡◌, ◌+◌, Some, None, IsErrOf, MatchOption, Result as ResultOf};
+ghost use Rattle.std.specs.Prelude.{◌≡◌, ◌≤◌, ◌+◌, Some, None, IsErrOf, MatchOption, Result as ResultOf};
 ghost use Rattle.std.specs.Option.{option_copied};
 ghost use Rattle.j_definitions.specs.Array.{Array};
 ghost use Rattle.j_definitions.specs.declared.Fault.{Fault as FaultValue};
@@ -39,7 +39,6 @@ fn levels_below(room: u32, v: &Verb) -> Option<u32>
 
 impl Machine {
     /// A call of a verb where `room` levels are left.
-    #[cycle(eval)]
     #[tactic(auto, using(crate::proofs::Runs::meets_call, crate::proofs::Runs::stack_call))]
     pub(crate) fn call(&mut self, room: u32, v: &Verb, x: Option<&Noun>, y: &Noun) -> Result<Noun, Halt>
         ensures gives { Meets result self.new (call (nested room) v.now (option_copied x.entry) y.now self.old.state) }

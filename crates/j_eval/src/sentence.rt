@@ -9,7 +9,7 @@ ghost use Rattle.j_eval.specs.Applying.{nested};
 ghost use Rattle.j_eval.specs.Stack.{stack_of, slot_of};
 ghost use Rattle.j_eval.specs.Table.{kind_of, is_name};
 ghost use Rattle.j_eval.specs.declared.stack.Row.TheVariants as row;
-ghost use Rattle.j_eval.specs.Meaning.{bident_words, unassigned, reduced, finished, sentence, most_levels};
+ghost use Rattle.j_eval.specs.Meaning.{ranked, entity_bident, bident_words, unassigned, reduced, entity_in, finished, sentence, most_levels};
 ghost use Rattle.j_eval.specs.Meets.{Running, Meets, MeetsAs, MeetsAt, Onward};
 
 use crate::machine::{MOST_LEVELS, Machine};
@@ -19,7 +19,7 @@ use crate::stack::{
     pop_operand, pop_verb, pop_word, push, push_entity, row_of,
 };
 use j_entity::{Entity, Item, Operand, Operator, OperatorParts, Verb};
-use j_noun::{Fault, Noun, Refusal};
+use j_noun::{Fault, RankList, Refusal};
 use j_trains as trains;
 use std::alloc::Global;
 
@@ -47,31 +47,46 @@ fn formed_verb(answer: Result<Verb, Refusal>) -> Result<Verb, Halt>
     }
 }
 
-// Two words at an edge.
-fn bident(alloc: Global, b: Item, c: Item) -> Result<Entity, Refusal>
-    ensures { IsFormed (bident_words (word_of b) (word_of c)) result }
+// A conjunction and a rank list right of it.
+fn ranked(alloc: Global, b: Entity, l: RankList) -> Result<Entity, Refusal>
+    ensures { IsFormed (ranked (entity_of b) l) result }
 {
-    match (b, c) {
-        (Item::Entity(a), Item::Entity(b)) => trains::bident(alloc, a, b),
-        (Item::Entity(Entity::Conjunction(c)), Item::Ranks(l)) => {
+    match b {
+        Entity::Conjunction(c) => {
             let parts = OperatorParts::Right(c, Operand::Ranks(l));
             Ok(Entity::Adverb(Operator::derive(alloc, parts)?))
         }
-        _ => Err(Refusal::Fault(Fault::Syntax)),
+        Entity::Noun(_) | Entity::Verb(_) | Entity::Adverb(_) => {
+            Err(Refusal::Fault(Fault::Syntax))
+        }
     }
 }
 
-// At the end the stack is the start mark and one entity.
-fn finished(mut stack: Vec<Entry>) -> Result<Entity, Halt>
-    ensures gives { (m : Running) → MeetsAs entity_of result m (finished (stack_of stack.items) m.state) }
-    ensures unspent { IsErrOf result Halt.Spent → ⊥ }
+// An entity and a word right of it.
+fn entity_bident(alloc: Global, b: Entity, c: Item) -> Result<Entity, Refusal>
+    ensures { IsFormed (entity_bident (entity_of b) (word_of c)) result }
 {
-    let mark = pop(&mut stack)?;
-    let word = pop_word(&mut stack)?;
-    let alone = is_start(kind_of(&mark)) && stack.is_empty();
-    match word {
-        Item::Entity(e) if alone => Ok(e),
-        _ => Err(Halt::Failed(Fault::Syntax)),
+    match c {
+        Item::Entity(c) => trains::bident(alloc, b, c),
+        Item::Ranks(l) => ranked(alloc, b, l),
+        Item::Name(_) | Item::Local | Item::Global | Item::Open | Item::Close => {
+            Err(Refusal::Fault(Fault::Syntax))
+        }
+    }
+}
+
+// Two words alone.
+fn bident(alloc: Global, b: Item, c: Item) -> Result<Entity, Refusal>
+    ensures { IsFormed (bident_words (word_of b) (word_of c)) result }
+{
+    match b {
+        Item::Entity(b) => entity_bident(alloc, b, c),
+        Item::Ranks(_)
+        | Item::Name(_)
+        | Item::Local
+        | Item::Global
+        | Item::Open
+        | Item::Close => Err(Refusal::Fault(Fault::Syntax)),
     }
 }
 
@@ -83,6 +98,36 @@ fn unassigned(name: bool) -> Fault
 }
 
 impl Machine {
+    // The entity of a word.
+    fn entity_in(&self, word: Item) -> Result<Entity, Halt>
+        ensures gives { MeetsAs entity_of result self.now (entity_in (word_of word) self.now.state) }
+        ensures unspent { IsErrOf result Halt.Spent → ⊥ }
+    {
+        match word {
+            Item::Entity(e) => Ok(e),
+            Item::Ranks(_)
+            | Item::Name(_)
+            | Item::Local
+            | Item::Global
+            | Item::Open
+            | Item::Close => Err(Halt::Failed(Fault::Syntax)),
+        }
+    }
+
+    // At the end the stack is the start mark and one entity.
+    fn finished(&self, mut stack: Vec<Entry>) -> Result<Entity, Halt>
+        ensures gives { MeetsAs entity_of result self.now (finished (stack_of stack.items) self.now.state) }
+        ensures unspent { IsErrOf result Halt.Spent → ⊥ }
+    {
+        let mark = pop(&mut stack)?;
+        let word = pop_word(&mut stack)?;
+        if is_start(kind_of(&mark)) && stack.is_empty() {
+            self.entity_in(word)
+        } else {
+            Err(Halt::Failed(Fault::Syntax))
+        }
+    }
+
     // Row 0: a verb at an edge, on the noun right of it.
     fn monad(&mut self, stack: &mut Vec<Entry>) -> Result<(), Halt>
         ensures gives { MeetsAt (stack_of stack.new.items) result self.new (reduced (nested most_levels) row.Monad (stack_of stack.old.items) self.old.state) }
@@ -255,7 +300,7 @@ impl Machine {
                 push(&mut stack, Entry::Start)?;
                 started = true;
             } else {
-                return finished(stack);
+                return self.finished(stack);
             }
         }
     }

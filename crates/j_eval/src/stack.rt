@@ -2,7 +2,7 @@
 ghost use Rattle.std.specs.Prelude.{◌≡◌, ◌+◌, ◌∷◌, length};
 ghost use Rattle.j_entity.specs.Tree.{entity as entity_word};
 ghost use Rattle.j_entity.specs.View.{operand_of, word_of, entity_of};
-ghost use Rattle.j_eval.specs.Table.{kind_of, kind_at, entity_kind, word_kind, is_start, is_copula, is_open, is_close, is_noun, is_verb, is_adverb, is_conjunction, is_name, is_edge, is_operand, is_left, is_entity, row_at, row_of, Word};
+ghost use Rattle.j_eval.specs.Table.{kind_of, kind_at, entity_kind, word_kind, is_start, is_copula, is_open, is_close, is_noun, is_verb, is_adverb, is_conjunction, is_name, is_edge, is_operand, is_left, is_entity, fits, row_at, row_of, Word};
 ghost use Rattle.j_eval.specs.Stack.{slot_of, stack_of, popped, popped_word, popped_noun, popped_verb, popped_operand, popped_adverb, popped_conjunction};
 ghost use Rattle.j_eval.specs.Meets.{NoMemoryOr, Pops, PopsAs};
 
@@ -172,37 +172,39 @@ pub fn is_entity(k: EntryKind) -> bool
     is_conjunction(k) || is_adverb(k) || is_operand(k)
 }
 
+/// What each row asks of the first four entries.
+fn fits(a: EntryKind, b: EntryKind, c: EntryKind, d: EntryKind, row: Row) -> bool
+    ensures { result ≡ fits a b c d row }
+{
+    match row {
+        Row::Monad => is_edge(a) && is_verb(b) && is_noun(c),
+        Row::MonadRight => is_left(a) && is_verb(b) && is_verb(c) && is_noun(d),
+        Row::Dyad => is_left(a) && is_noun(b) && is_verb(c) && is_noun(d),
+        Row::Adverb => is_left(a) && is_operand(b) && is_adverb(c),
+        Row::Conjunction => is_left(a) && is_operand(b) && is_conjunction(c) && is_operand(d),
+        Row::Fork => is_left(a) && is_operand(b) && is_verb(c) && is_verb(d),
+        Row::Bident => is_edge(a) && is_entity(b) && is_entity(c),
+        Row::Assignment => (is_name(a) || is_noun(a)) && is_copula(b) && is_entity(c),
+        Row::Parentheses => is_open(a) && is_entity(b) && is_close(c),
+    }
+}
+
+const TABLE: [Row; 9] = [
+    Row::Monad,
+    Row::MonadRight,
+    Row::Dyad,
+    Row::Adverb,
+    Row::Conjunction,
+    Row::Fork,
+    Row::Bident,
+    Row::Assignment,
+    Row::Parentheses,
+];
+
 fn row_at(a: EntryKind, b: EntryKind, c: EntryKind, d: EntryKind) -> Option<Row>
     ensures { result ≡ row_at a b c d }
 {
-    if is_edge(a) && is_verb(b) && is_noun(c) {
-        return Some(Row::Monad);
-    }
-    if is_left(a) && is_verb(b) && is_verb(c) && is_noun(d) {
-        return Some(Row::MonadRight);
-    }
-    if is_left(a) && is_noun(b) && is_verb(c) && is_noun(d) {
-        return Some(Row::Dyad);
-    }
-    if is_left(a) && is_operand(b) && is_adverb(c) {
-        return Some(Row::Adverb);
-    }
-    if is_left(a) && is_operand(b) && is_conjunction(c) && is_operand(d) {
-        return Some(Row::Conjunction);
-    }
-    if is_left(a) && is_operand(b) && is_verb(c) && is_verb(d) {
-        return Some(Row::Fork);
-    }
-    if is_edge(a) && is_entity(b) && is_entity(c) {
-        return Some(Row::Bident);
-    }
-    if (is_name(a) || is_noun(a)) && is_copula(b) && is_entity(c) {
-        return Some(Row::Assignment);
-    }
-    if is_open(a) && is_entity(b) && is_close(c) {
-        return Some(Row::Parentheses);
-    }
-    None
+    TABLE.iter().copied().find(|row| fits(a, b, c, d, *row))
 }
 
 /// The first row that matches.

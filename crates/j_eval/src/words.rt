@@ -1,8 +1,9 @@
 // What the verbs that are one word do.
-ghost use Rattle.std.specs.Prelude.{◌≡◌, Some};
+ghost use Rattle.std.specs.Prelude.{◌≡◌, Ok};
 ghost use Rattle.std.specs.Option.{option_copied};
+ghost use Rattle.j_leaves.specs.Spelling.{constant};
 ghost use Rattle.j_kernels.specs.Answered.{IsAnswered};
-ghost use Rattle.j_eval.specs.Applying.{scalar, left_of, word, is_cap};
+ghost use Rattle.j_eval.specs.Applying.{scalar, left_of, constant_or_nonce, word, is_cap};
 
 use j_entity::{Primitive, Tree, Verb};
 use j_kernels as kernels;
@@ -52,5 +53,16 @@ pub fn word(alloc: Global, v: Primitive, x: Option<&Noun>, y: &Noun) -> Result<N
 pub fn is_cap(v: &Verb) -> bool
     ensures { result ≡ is_cap v.now }
 {
-    matches!(v.tree(), Tree::Primitive(Primitive::Cap))
+    match v.tree() {
+        Tree::Primitive(v) => v == Primitive::Cap,
+        Tree::Named(_, _)
+        | Tree::Fork(_, _, _)
+        | Tree::NounFork(_, _, _)
+        | Tree::Hook(_, _)
+        | Tree::Derived(_, _)
+        | Tree::Derived2(_, _, _)
+        | Tree::Explicit(_)
+        | Tree::Explicit1(_, _)
+        | Tree::Explicit2(_, _, _) => false,
+    }
 }

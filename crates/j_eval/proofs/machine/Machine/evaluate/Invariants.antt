@@ -5,7 +5,7 @@ use Rattle.j_eval.specs.Meaning.{parsed, sentence, most_levels}
 use Rattle.j_eval.specs.Stack.{stack_of}
 use Rattle.j_eval.specs.Meets.{Onward}
 use Rattle.j_eval.proofs.Sentences.{queue_rest, marks}
-use Rattle.j_eval.proofs.sentence.Machine.evaluate.Given as goal
+use Rattle.j_eval.proofs.machine.Machine.evaluate.Given as goal
 
 -- what is left from here is the whole
 abbrev pub invariant-turns : goal.invariant-turns

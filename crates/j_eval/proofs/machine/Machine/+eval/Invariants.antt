@@ -1,10 +1,7 @@
 use Rattle.std.proofs.Common.{ℕ, ◌+◌, ◌*◌, max}
 use Rattle.j_entity.specs.Heights.{verb_height, operand_height}
 use Rattle.j_entity.specs.View.{operand_of}
-use Rattle.j_eval.proofs.applying.Machine.+eval.Given as goal
-
-abbrev pub decreases-call : goal.decreases-call
-decreases-call l = 1000 * l.room
+use Rattle.j_eval.proofs.machine.Machine.+eval.Given as goal
 
 abbrev pub decreases-apply : goal.decreases-apply
 decreases-apply l = 1000 * l.room + 10 * verb_height l.v.now + 9
