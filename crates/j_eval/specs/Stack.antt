@@ -21,7 +21,7 @@ stack_of entries = reverse (map slot_of entries)
 abbrev pub Popped : Type 0 → Type 0
 Popped A = Result (A × List Slot) Fault
 
-abbrev pub popped : List Slot → Popped Slot
+unfoldable pub popped : List Slot → Popped Slot
 popped [] = Err Syntax
 popped (e ∷ es) = Ok (e, es)
 
@@ -29,7 +29,7 @@ abbrev pub as_word : Slot → List Slot → Popped WordTree
 as_word Start es = Err Syntax
 as_word (Word w) es = Ok (w, es)
 
-abbrev pub popped_word : List Slot → Popped WordTree
+unfoldable pub popped_word : List Slot → Popped WordTree
 popped_word [] = Err Syntax
 popped_word (e ∷ es) = as_word e es
 
@@ -37,7 +37,7 @@ abbrev pub as_noun : Slot → List Slot → Popped Array
 as_noun (Word (entity (a_noun y))) es = Ok (y, es)
 as_noun _ es = Err Syntax
 
-abbrev pub popped_noun : List Slot → Popped Array
+unfoldable pub popped_noun : List Slot → Popped Array
 popped_noun [] = Err Syntax
 popped_noun (e ∷ es) = as_noun e es
 
@@ -45,7 +45,7 @@ abbrev pub as_verb : Slot → List Slot → Popped VerbTree
 as_verb (Word (entity (a_verb v))) es = Ok (v, es)
 as_verb _ es = Err Syntax
 
-abbrev pub popped_verb : List Slot → Popped VerbTree
+unfoldable pub popped_verb : List Slot → Popped VerbTree
 popped_verb [] = Err Syntax
 popped_verb (e ∷ es) = as_verb e es
 
@@ -55,7 +55,7 @@ as_operand (Word (entity (a_verb v))) es = Ok (verb v, es)
 as_operand (Word (ranks_word l)) es = Ok (rank_list l, es)
 as_operand _ es = Err Syntax
 
-abbrev pub popped_operand : List Slot → Popped OperandTree
+unfoldable pub popped_operand : List Slot → Popped OperandTree
 popped_operand [] = Err Syntax
 popped_operand (e ∷ es) = as_operand e es
 
@@ -63,7 +63,7 @@ abbrev pub as_adverb : Slot → List Slot → Popped OperatorTree
 as_adverb (Word (entity (an_adverb a))) es = Ok (a, es)
 as_adverb _ es = Err Syntax
 
-abbrev pub popped_adverb : List Slot → Popped OperatorTree
+unfoldable pub popped_adverb : List Slot → Popped OperatorTree
 popped_adverb [] = Err Syntax
 popped_adverb (e ∷ es) = as_adverb e es
 
@@ -71,6 +71,6 @@ abbrev pub as_conjunction : Slot → List Slot → Popped OperatorTree
 as_conjunction (Word (entity (a_conjunction c))) es = Ok (c, es)
 as_conjunction _ es = Err Syntax
 
-abbrev pub popped_conjunction : List Slot → Popped OperatorTree
+unfoldable pub popped_conjunction : List Slot → Popped OperatorTree
 popped_conjunction [] = Err Syntax
 popped_conjunction (e ∷ es) = as_conjunction e es

@@ -172,7 +172,7 @@ impl Machine {
         ensures spent { IsErrOf result Halt.Spent → self.old.state.budget < self.old.state.steps + length items.now + 1 }
         ensures readiness { self.new.readiness ≡ self.old.readiness }
     {
-        let e = self.evaluate(items)?;
+        let e = self.evaluate(MOST_LEVELS, items)?;
         self.show(&e)?;
         Ok(e)
     }

@@ -5,14 +5,14 @@ ghost use Rattle.j_entity.specs.Tree.{EntityTree, VerbTree};
 ghost use Rattle.j_entity.specs.View.{entity_of, word_of};
 ghost use Rattle.j_trains.specs.Formed.{IsFormed, IsFormedVerb};
 ghost use Rattle.j_eval.specs.State.{or_fault};
-ghost use Rattle.j_eval.specs.Applying.{nested};
+ghost use Rattle.j_eval.specs.Applying.{Calls, nested};
 ghost use Rattle.j_eval.specs.Stack.{stack_of, slot_of};
 ghost use Rattle.j_eval.specs.Table.{kind_of, is_name};
 ghost use Rattle.j_eval.specs.declared.stack.Row.TheVariants as row;
-ghost use Rattle.j_eval.specs.Meaning.{ranked, entity_bident, bident_words, unassigned, reduced, entity_in, finished, sentence, most_levels};
+ghost use Rattle.j_eval.specs.Meaning.{ranked, entity_bident, bident_words, unassigned, reduced, entity_in, finished, sentence};
 ghost use Rattle.j_eval.specs.Meets.{Running, Meets, MeetsAs, MeetsAt, Onward};
 
-use crate::machine::{MOST_LEVELS, Machine};
+use crate::machine::Machine;
 use crate::outcome::Halt;
 use crate::stack::{
     Entry, Row, copied, is_name, is_start, kind_of, pop, pop_adverb, pop_conjunction, pop_noun,
@@ -129,8 +129,8 @@ impl Machine {
     }
 
     // Row 0: a verb at an edge, on the noun right of it.
-    fn monad(&mut self, stack: &mut Vec<Entry>) -> Result<(), Halt>
-        ensures gives { MeetsAt (stack_of stack.new.items) result self.new (reduced (nested most_levels) row.Monad (stack_of stack.old.items) self.old.state) }
+    fn monad(&mut self, room: u32, stack: &mut Vec<Entry>) -> Result<(), Halt>
+        ensures gives { MeetsAt (stack_of stack.new.items) result self.new (reduced (nested room) row.Monad (stack_of stack.old.items) self.old.state) }
         ensures shorter { OnOk result ((0 < length stack.new.items) × (length stack.new.items < length stack.old.items)) }
         ensures unspent { IsErrOf result Halt.Spent → ⊥ }
         ensures same { self.new ≡ self.old }
@@ -138,14 +138,14 @@ impl Machine {
         let a = pop(stack)?;
         let v = pop_verb(stack)?;
         let y = pop_noun(stack)?;
-        let r = self.call(MOST_LEVELS, &v, None, &y)?;
+        let r = self.call(room, &v, None, &y)?;
         push_entity(stack, Entity::Noun(r))?;
         push(stack, a)
     }
 
     // Row 1: a verb on the noun right of it, with a verb on its left.
-    fn monad_right(&mut self, stack: &mut Vec<Entry>) -> Result<(), Halt>
-        ensures gives { MeetsAt (stack_of stack.new.items) result self.new (reduced (nested most_levels) row.MonadRight (stack_of stack.old.items) self.old.state) }
+    fn monad_right(&mut self, room: u32, stack: &mut Vec<Entry>) -> Result<(), Halt>
+        ensures gives { MeetsAt (stack_of stack.new.items) result self.new (reduced (nested room) row.MonadRight (stack_of stack.old.items) self.old.state) }
         ensures shorter { OnOk result ((0 < length stack.new.items) × (length stack.new.items < length stack.old.items)) }
         ensures unspent { IsErrOf result Halt.Spent → ⊥ }
         ensures same { self.new ≡ self.old }
@@ -154,15 +154,15 @@ impl Machine {
         let b = pop(stack)?;
         let v = pop_verb(stack)?;
         let y = pop_noun(stack)?;
-        let r = self.call(MOST_LEVELS, &v, None, &y)?;
+        let r = self.call(room, &v, None, &y)?;
         push_entity(stack, Entity::Noun(r))?;
         push(stack, b)?;
         push(stack, a)
     }
 
     // Row 2: a verb between two nouns.
-    fn dyad(&mut self, stack: &mut Vec<Entry>) -> Result<(), Halt>
-        ensures gives { MeetsAt (stack_of stack.new.items) result self.new (reduced (nested most_levels) row.Dyad (stack_of stack.old.items) self.old.state) }
+    fn dyad(&mut self, room: u32, stack: &mut Vec<Entry>) -> Result<(), Halt>
+        ensures gives { MeetsAt (stack_of stack.new.items) result self.new (reduced (nested room) row.Dyad (stack_of stack.old.items) self.old.state) }
         ensures shorter { OnOk result ((0 < length stack.new.items) × (length stack.new.items < length stack.old.items)) }
         ensures unspent { IsErrOf result Halt.Spent → ⊥ }
         ensures same { self.new ≡ self.old }
@@ -171,14 +171,14 @@ impl Machine {
         let x = pop_noun(stack)?;
         let v = pop_verb(stack)?;
         let y = pop_noun(stack)?;
-        let r = self.call(MOST_LEVELS, &v, Some(&x), &y)?;
+        let r = self.call(room, &v, Some(&x), &y)?;
         push_entity(stack, Entity::Noun(r))?;
         push(stack, a)
     }
 
     // Row 3: an adverb right of its operand.
     fn modified(&self, stack: &mut Vec<Entry>) -> Result<(), Halt>
-        ensures gives { MeetsAt (stack_of stack.new.items) result self.now (reduced (nested most_levels) row.Adverb (stack_of stack.old.items) self.now.state) }
+        ensures gives { (calls : Calls) → MeetsAt (stack_of stack.new.items) result self.now (reduced calls row.Adverb (stack_of stack.old.items) self.now.state) }
         ensures shorter { OnOk result ((0 < length stack.new.items) × (length stack.new.items < length stack.old.items)) }
         ensures unspent { IsErrOf result Halt.Spent → ⊥ }
     {
@@ -192,7 +192,7 @@ impl Machine {
 
     // Row 4: a conjunction between its operands.
     fn joined(&self, stack: &mut Vec<Entry>) -> Result<(), Halt>
-        ensures gives { MeetsAt (stack_of stack.new.items) result self.now (reduced (nested most_levels) row.Conjunction (stack_of stack.old.items) self.now.state) }
+        ensures gives { (calls : Calls) → MeetsAt (stack_of stack.new.items) result self.now (reduced calls row.Conjunction (stack_of stack.old.items) self.now.state) }
         ensures shorter { OnOk result ((0 < length stack.new.items) × (length stack.new.items < length stack.old.items)) }
         ensures unspent { IsErrOf result Halt.Spent → ⊥ }
     {
@@ -207,7 +207,7 @@ impl Machine {
 
     // Row 5: a fork.
     fn train(&self, stack: &mut Vec<Entry>) -> Result<(), Halt>
-        ensures gives { MeetsAt (stack_of stack.new.items) result self.now (reduced (nested most_levels) row.Fork (stack_of stack.old.items) self.now.state) }
+        ensures gives { (calls : Calls) → MeetsAt (stack_of stack.new.items) result self.now (reduced calls row.Fork (stack_of stack.old.items) self.now.state) }
         ensures shorter { OnOk result ((0 < length stack.new.items) × (length stack.new.items < length stack.old.items)) }
         ensures unspent { IsErrOf result Halt.Spent → ⊥ }
     {
@@ -222,7 +222,7 @@ impl Machine {
 
     // Row 6: two entities alone.
     fn bident(&self, stack: &mut Vec<Entry>) -> Result<(), Halt>
-        ensures gives { MeetsAt (stack_of stack.new.items) result self.now (reduced (nested most_levels) row.Bident (stack_of stack.old.items) self.now.state) }
+        ensures gives { (calls : Calls) → MeetsAt (stack_of stack.new.items) result self.now (reduced calls row.Bident (stack_of stack.old.items) self.now.state) }
         ensures shorter { OnOk result ((0 < length stack.new.items) × (length stack.new.items < length stack.old.items)) }
         ensures unspent { IsErrOf result Halt.Spent → ⊥ }
     {
@@ -236,7 +236,7 @@ impl Machine {
 
     // Row 7: a name or a noun left of a copula.
     fn assignment(&self, stack: &mut Vec<Entry>) -> Result<(), Halt>
-        ensures gives { MeetsAt (stack_of stack.new.items) result self.now (reduced (nested most_levels) row.Assignment (stack_of stack.old.items) self.now.state) }
+        ensures gives { (calls : Calls) → MeetsAt (stack_of stack.new.items) result self.now (reduced calls row.Assignment (stack_of stack.old.items) self.now.state) }
         ensures shorter { OnOk result ((0 < length stack.new.items) × (length stack.new.items < length stack.old.items)) }
         ensures unspent { IsErrOf result Halt.Spent → ⊥ }
     {
@@ -246,7 +246,7 @@ impl Machine {
 
     // Row 8: an entity in parentheses.
     fn parentheses(&self, stack: &mut Vec<Entry>) -> Result<(), Halt>
-        ensures gives { MeetsAt (stack_of stack.new.items) result self.now (reduced (nested most_levels) row.Parentheses (stack_of stack.old.items) self.now.state) }
+        ensures gives { (calls : Calls) → MeetsAt (stack_of stack.new.items) result self.now (reduced calls row.Parentheses (stack_of stack.old.items) self.now.state) }
         ensures shorter { OnOk result ((0 < length stack.new.items) × (length stack.new.items < length stack.old.items)) }
         ensures unspent { IsErrOf result Halt.Spent → ⊥ }
     {
@@ -257,16 +257,16 @@ impl Machine {
     }
 
     // What a row does with the first entries.
-    fn reduce(&mut self, row: Row, stack: &mut Vec<Entry>) -> Result<(), Halt>
-        ensures gives { MeetsAt (stack_of stack.new.items) result self.new (reduced (nested most_levels) row (stack_of stack.old.items) self.old.state) }
+    fn reduce(&mut self, room: u32, row: Row, stack: &mut Vec<Entry>) -> Result<(), Halt>
+        ensures gives { MeetsAt (stack_of stack.new.items) result self.new (reduced (nested room) row (stack_of stack.old.items) self.old.state) }
         ensures shorter { OnOk result ((0 < length stack.new.items) × (length stack.new.items < length stack.old.items)) }
         ensures unspent { IsErrOf result Halt.Spent → ⊥ }
         ensures same { self.new ≡ self.old }
     {
         match row {
-            Row::Monad => self.monad(stack),
-            Row::MonadRight => self.monad_right(stack),
-            Row::Dyad => self.dyad(stack),
+            Row::Monad => self.monad(room, stack),
+            Row::MonadRight => self.monad_right(room, stack),
+            Row::Dyad => self.dyad(room, stack),
             Row::Adverb => self.modified(stack),
             Row::Conjunction => self.joined(stack),
             Row::Fork => self.train(stack),
@@ -277,8 +277,8 @@ impl Machine {
     }
 
     /// The value of a sentence.
-    pub(crate) fn evaluate(&mut self, items: &[Item]) -> Result<Entity, Halt>
-        ensures gives { MeetsAs entity_of result self.new (sentence (nested most_levels) (map word_of items.now) self.old.state) }
+    pub(crate) fn evaluate(&mut self, room: u32, items: &[Item]) -> Result<Entity, Halt>
+        ensures gives { MeetsAs entity_of result self.new (sentence (nested room) (map word_of items.now) self.old.state) }
         ensures onward { Onward self.old self.new }
         ensures shown { self.new.state.shown ≡ self.old.state.shown }
         ensures most { self.new.state.steps ≤ self.old.state.steps + length items.now + 1 }
@@ -292,7 +292,7 @@ impl Machine {
         'turns: loop {
             if let Some(row) = row_of(&stack) {
                 self.tick()?;
-                self.reduce(row, &mut stack)?;
+                self.reduce(room, row, &mut stack)?;
             } else if let Some((item, rest)) = left.split_last() {
                 push(&mut stack, Entry::Word(copied(item)?))?;
                 left = rest;

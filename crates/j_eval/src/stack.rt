@@ -249,12 +249,14 @@ pub fn push_entity(stack: &mut Vec<Entry>, entity: Entity) -> Result<(), Halt>
     push(stack, Entry::Word(Item::Entity(entity)))
 }
 
+#[tactic(auto, unfolding(crate::specs::Stack::popped))]
 pub fn pop(stack: &mut Vec<Entry>) -> Result<Entry, Halt>
     ensures { PopsAs slot_of result stack.old stack.new (popped (stack_of stack.old.items)) }
 {
     stack.pop().ok_or(Halt::Failed(Fault::Syntax))
 }
 
+#[tactic(auto, unfolding(crate::specs::Stack::popped_word))]
 pub fn pop_word(stack: &mut Vec<Entry>) -> Result<Item, Halt>
     ensures { PopsAs word_of result stack.old stack.new (popped_word (stack_of stack.old.items)) }
 {
@@ -264,6 +266,7 @@ pub fn pop_word(stack: &mut Vec<Entry>) -> Result<Item, Halt>
     }
 }
 
+#[tactic(auto, unfolding(crate::specs::Stack::popped_noun))]
 pub fn pop_noun(stack: &mut Vec<Entry>) -> Result<Noun, Halt>
     ensures { Pops result stack.old stack.new (popped_noun (stack_of stack.old.items)) }
 {
@@ -273,6 +276,7 @@ pub fn pop_noun(stack: &mut Vec<Entry>) -> Result<Noun, Halt>
     }
 }
 
+#[tactic(auto, unfolding(crate::specs::Stack::popped_verb))]
 pub fn pop_verb(stack: &mut Vec<Entry>) -> Result<Verb, Halt>
     ensures { Pops result stack.old stack.new (popped_verb (stack_of stack.old.items)) }
 {
@@ -282,6 +286,7 @@ pub fn pop_verb(stack: &mut Vec<Entry>) -> Result<Verb, Halt>
     }
 }
 
+#[tactic(auto, unfolding(crate::specs::Stack::popped_operand))]
 pub fn pop_operand(stack: &mut Vec<Entry>) -> Result<Operand, Halt>
     ensures { PopsAs operand_of result stack.old stack.new (popped_operand (stack_of stack.old.items)) }
 {
@@ -293,6 +298,7 @@ pub fn pop_operand(stack: &mut Vec<Entry>) -> Result<Operand, Halt>
     }
 }
 
+#[tactic(auto, unfolding(crate::specs::Stack::popped_adverb))]
 pub fn pop_adverb(stack: &mut Vec<Entry>) -> Result<Operator, Halt>
     ensures { Pops result stack.old stack.new (popped_adverb (stack_of stack.old.items)) }
 {
@@ -302,6 +308,7 @@ pub fn pop_adverb(stack: &mut Vec<Entry>) -> Result<Operator, Halt>
     }
 }
 
+#[tactic(auto, unfolding(crate::specs::Stack::popped_conjunction))]
 pub fn pop_conjunction(stack: &mut Vec<Entry>) -> Result<Operator, Halt>
     ensures { Pops result stack.old stack.new (popped_conjunction (stack_of stack.old.items)) }
 {

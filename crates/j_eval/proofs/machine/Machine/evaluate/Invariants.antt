@@ -1,7 +1,7 @@
 use Rattle.std.proofs.Common.{◌≡◌, ℕ, ◌+◌, ◌*◌, ◌<◌, ◌≤◌, length, map, true}
 use Rattle.j_entity.specs.View.{word_of}
 use Rattle.j_eval.specs.Applying.{nested}
-use Rattle.j_eval.specs.Meaning.{parsed, sentence, most_levels}
+use Rattle.j_eval.specs.Meaning.{parsed, sentence}
 use Rattle.j_eval.specs.Stack.{stack_of}
 use Rattle.j_eval.specs.Meets.{Onward}
 use Rattle.j_eval.proofs.Sentences.{queue_rest, marks}
@@ -12,7 +12,7 @@ abbrev pub invariant-turns : goal.invariant-turns
 invariant-turns l = record {
   bound : ℕ;
   enough : 2 * (length l.left + marks l.started) + length l.stack.items < bound;
-  same : parsed bound (nested most_levels) (queue_rest l.started (map word_of l.left)) (stack_of l.stack.items) l.self.state ≡ sentence (nested most_levels) (map word_of l.items) l.fn.self.state;
+  same : parsed bound (nested l.room) (queue_rest l.started (map word_of l.left)) (stack_of l.stack.items) l.self.state ≡ sentence (nested l.room) (map word_of l.items) l.fn.self.state;
   ended : l.started ≡ true → (length l.left ≡ 0) × (0 < length l.stack.items);
   most : l.self.state.steps + length l.stack.items + length l.left + marks l.started ≤ l.fn.self.state.steps + length l.items + 2;
   shown : l.self.state.shown ≡ l.fn.self.state.shown;
