@@ -150,7 +150,7 @@ executed calls words = do
   pure e
 
 -- most levels of calls
-abbrev pub most_levels : ℕ
+unfoldable pub most_levels : ℕ
 most_levels = 1000
 
 -- A top sentence, before which nothing is shown.

@@ -18,8 +18,13 @@ use std::marker::Model;
 
 const MOST_SHOWN: usize = 67_108_864;
 
-/// The most levels of calls in a top sentence.
-pub(crate) const MOST_LEVELS: u32 = 1_000;
+// The most levels of calls in a top sentence.
+#[tactic(auto, unfolding(crate::specs::Meaning::most_levels))]
+fn most_levels() -> u32
+    ensures { result ≡ most_levels }
+{
+    1_000
+}
 
 #[derive(Clone, Copy, PartialEq, Eq, Debug)]
 enum Fitness {
@@ -142,7 +147,7 @@ impl Machine {
     {
         match self.fitness {
             Fitness::Ready => {
-                let answer = self.call(MOST_LEVELS, v, x, y);
+                let answer = self.call(most_levels(), v, x, y);
                 self.settle_call(answer)
             }
             Fitness::Spent => Err(Halt::Spent),
@@ -172,7 +177,7 @@ impl Machine {
         ensures spent { IsErrOf result Halt.Spent → self.old.state.budget < self.old.state.steps + length items.now + 1 }
         ensures readiness { self.new.readiness ≡ self.old.readiness }
     {
-        let e = self.evaluate(MOST_LEVELS, items)?;
+        let e = self.evaluate(most_levels(), items)?;
         self.show(&e)?;
         Ok(e)
     }

@@ -13,15 +13,16 @@ pub returns-in_err-tick-2-clause-gives : goal.returns-in_err-tick-2-clause-gives
 returns-in_err-tick-2-clause-gives c =
     let v = c.turns.invariant in
     let is : row_of (stack_of c.turns.stack.items) ≡ Some c.in-Some.row = search rules in
-    tick_err (nested c.args.room) (queue_rest c.turns.started (map word_of c.turns.left.now)) (stack_of c.turns.stack.items) c.turns.self.state v.bound c.in-Some.row c.in_err-tick-2.field-0.0 c.tick-in-Some.new.self
-    (sentence (nested c.args.room) (map word_of c.args.items.now) c.args.self.now.state) (omega (arith, v.enough)) is v.same c.in_err-tick-2.ensures.gives
+    let h = tick_err (nested c.args.room) (queue_rest c.turns.started (map word_of c.turns.left.now)) (stack_of c.turns.stack.items) c.turns.self.state v.bound c.in-Some.row c.in_err-tick-2.field-0.0 c.tick-in-Some.new.self
+    (sentence (nested c.args.room) (map word_of c.args.items.now) c.args.self.now.state) (omega (arith, v.enough)) is v.same c.in_err-tick-2.ensures.gives in
+    search rules
 
 pub returns-in_err-tick-2-clause-spent : goal.returns-in_err-tick-2-clause-spent
 returns-in_err-tick-2-clause-spent c = λ _.
     let v = c.turns.invariant in
     let is : row_of (stack_of c.turns.stack.items) ≡ Some c.in-Some.row = search rules in
     let long = row_long (stack_of c.turns.stack.items) c.in-Some.row is in
-    omega (arith, long, length-reverse (map slot_of c.turns.stack.items), length-map slot_of c.turns.stack.items, v.most, v.onward.budget, c.in_err-tick-2.ensures.spent.1)
+    omega (arith, long, length-reverse (map slot_of c.turns.stack.items), length-map c.turns.stack.items slot_of, v.most, v.onward.budget, c.in_err-tick-2.ensures.spent.1)
 
 pub turns-preserved-in_ok-reduce : goal.turns-preserved-in_ok-reduce
 turns-preserved-in_ok-reduce c =
@@ -45,8 +46,9 @@ pub returns-in_err-reduce-clause-gives : goal.returns-in_err-reduce-clause-gives
 returns-in_err-reduce-clause-gives c =
     let v = c.turns.invariant in
     let is : row_of (stack_of c.turns.stack.items) ≡ Some c.in-Some.row = search rules in
-    reduce_err (nested c.args.room) (queue_rest c.turns.started (map word_of c.turns.left.now)) (stack_of c.turns.stack.items) c.turns.self.state v.bound c.in-Some.row c.in_err-reduce.field-0.0 c.reduce.new.self
-    c.tick-in-Some.new.self.state (stack_of c.reduce.new.stack.items) (sentence (nested c.args.room) (map word_of c.args.items.now) c.args.self.now.state) (omega (arith, v.enough)) is c.in_ok-tick-2.ensures.gives v.same c.in_err-reduce.ensures.gives
+    let h = reduce_err (nested c.args.room) (queue_rest c.turns.started (map word_of c.turns.left.now)) (stack_of c.turns.stack.items) c.turns.self.state v.bound c.in-Some.row c.in_err-reduce.field-0.0 c.reduce.new.self
+    c.tick-in-Some.new.self.state (stack_of c.reduce.new.stack.items) (sentence (nested c.args.room) (map word_of c.args.items.now) c.args.self.now.state) (omega (arith, v.enough)) is c.in_ok-tick-2.ensures.gives v.same c.in_err-reduce.ensures.gives in
+    search rules
 
 pub turns-preserved-in-Some-split_last : goal.turns-preserved-in-Some-split_last
 turns-preserved-in-Some-split_last c =
@@ -100,3 +102,11 @@ pub returns-else-not-started-clause-most : goal.returns-else-not-started-clause-
 returns-else-not-started-clause-most c =
     let started : c.turns.started ≡ true = search rules in
     omega (arith, c.turns.invariant.most, (c.turns.invariant.ended started).1)
+
+pub returns-in_err-reduce-clause-most : goal.returns-in_err-reduce-clause-most
+returns-in_err-reduce-clause-most c =
+    let v = c.turns.invariant in
+    let is : row_of (stack_of c.turns.stack.items) ≡ Some c.in-Some.row = search rules in
+    let long = row_long (stack_of c.turns.stack.items) c.in-Some.row is in
+    let steps : c.reduce.new.self.state.steps ≡ c.turns.self.state.steps + 1 = ap (λ (m : Running). m.state.steps) c.in_err-reduce.ensures.same ∙ c.in_ok-tick-2.ensures.counted in
+    omega (arith, long, length-reverse (map slot_of c.turns.stack.items), length-map c.turns.stack.items slot_of, v.most, steps)
