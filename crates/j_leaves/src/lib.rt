@@ -6,9 +6,11 @@ mod moves;
 mod name;
 mod primitive;
 mod ranks;
+mod rows;
 
 pub use modifier::Modifier;
 pub use moves::{Exit, Move, Span};
 pub use name::{Name, Place, Text};
 pub use primitive::Primitive;
 pub use ranks::Ranks;
+pub use rows::{name_laws, vocabulary_laws, worked_rows};

@@ -22,12 +22,36 @@ pub enum Move {
     Run(u32),
     Assert(u32),
     Leave(Exit),
-    If { test: Span, other: u32, end: u32 },
-    While { test: Span, end: u32 },
-    Whilst { test: Span, end: u32 },
-    For { name: Option<Name>, test: Span, end: u32 },
-    Select { test: Span, end: u32 },
-    Case { test: Span, falls: bool, other: u32 },
-    Try { other: u32, end: u32 },
+    If {
+        test: Span,
+        other: u32,
+        end: u32,
+    },
+    While {
+        test: Span,
+        end: u32,
+    },
+    Whilst {
+        test: Span,
+        end: u32,
+    },
+    For {
+        name: Option<Name>,
+        test: Span,
+        end: u32,
+    },
+    Select {
+        test: Span,
+        end: u32,
+    },
+    Case {
+        test: Span,
+        falls: bool,
+        other: u32,
+    },
+    Try {
+        other: u32,
+        end: u32,
+    },
     End,
 }

@@ -1,4 +1,7 @@
 // Verbs that are one word.
+ghost use Rattle.std.specs.Prelude.{◌≡◌, ◌↔◌, IsTrue, Some};
+ghost use Rattle.j_leaves.specs.Spelling.{primitive_spelling, primitive_words, is_primitive_word, spelled_of, primitive_of, constant};
+ghost use Rattle.j_leaves.specs.declared.primitive.Primitive.{Primitive};
 
 /// A verb that is one word, or one that the locale `z` holds from the start.
 #[derive(Clone, Copy, PartialEq, Eq, Debug)]
@@ -71,4 +74,194 @@ pub enum Primitive {
     Nine,
     Echo,
     Cocurrent,
+}
+
+// Those that have a word.
+const PRIMITIVES: [Primitive; 66] = [
+    Primitive::Plus,
+    Primitive::Minus,
+    Primitive::Times,
+    Primitive::Divide,
+    Primitive::Power,
+    Primitive::Residue,
+    Primitive::LesserOf,
+    Primitive::GreaterOf,
+    Primitive::LessEqual,
+    Primitive::GreaterEqual,
+    Primitive::Double,
+    Primitive::Square,
+    Primitive::Or,
+    Primitive::And,
+    Primitive::Not,
+    Primitive::Halve,
+    Primitive::Less,
+    Primitive::Greater,
+    Primitive::Equal,
+    Primitive::NotEqual,
+    Primitive::Nub,
+    Primitive::Shape,
+    Primitive::Ravel,
+    Primitive::RavelItems,
+    Primitive::Itemize,
+    Primitive::Link,
+    Primitive::Words,
+    Primitive::Tally,
+    Primitive::Base,
+    Primitive::Antibase,
+    Primitive::Reverse,
+    Primitive::Transpose,
+    Primitive::Take,
+    Primitive::Tail,
+    Primitive::Drop,
+    Primitive::Curtail,
+    Primitive::From,
+    Primitive::IndexOf,
+    Primitive::LastIndexOf,
+    Primitive::Indices,
+    Primitive::Member,
+    Primitive::GradeUp,
+    Primitive::GradeDown,
+    Primitive::Left,
+    Primitive::Right,
+    Primitive::Cap,
+    Primitive::Format,
+    Primitive::MinusNine,
+    Primitive::MinusEight,
+    Primitive::MinusSeven,
+    Primitive::MinusSix,
+    Primitive::MinusFive,
+    Primitive::MinusFour,
+    Primitive::MinusThree,
+    Primitive::MinusTwo,
+    Primitive::MinusOne,
+    Primitive::Zero,
+    Primitive::One,
+    Primitive::Two,
+    Primitive::Three,
+    Primitive::Four,
+    Primitive::Five,
+    Primitive::Six,
+    Primitive::Seven,
+    Primitive::Eight,
+    Primitive::Nine,
+];
+
+impl Primitive {
+    /// The word, or the name of a verb that has no word.
+    pub fn spelling(self) -> &'static [u8]
+        ensures { result.now ≡ primitive_spelling self }
+    {
+        match self {
+            Primitive::Plus => b"+",
+            Primitive::Minus => b"-",
+            Primitive::Times => b"*",
+            Primitive::Divide => b"%",
+            Primitive::Power => b"^",
+            Primitive::Residue => b"|",
+            Primitive::LesserOf => b"<.",
+            Primitive::GreaterOf => b">.",
+            Primitive::LessEqual => b"<:",
+            Primitive::GreaterEqual => b">:",
+            Primitive::Double => b"+:",
+            Primitive::Square => b"*:",
+            Primitive::Or => b"+.",
+            Primitive::And => b"*.",
+            Primitive::Not => b"-.",
+            Primitive::Halve => b"-:",
+            Primitive::Less => b"<",
+            Primitive::Greater => b">",
+            Primitive::Equal => b"=",
+            Primitive::NotEqual => b"~:",
+            Primitive::Nub => b"~.",
+            Primitive::Shape => b"$",
+            Primitive::Ravel => b",",
+            Primitive::RavelItems => b",.",
+            Primitive::Itemize => b",:",
+            Primitive::Link => b";",
+            Primitive::Words => b";:",
+            Primitive::Tally => b"#",
+            Primitive::Base => b"#.",
+            Primitive::Antibase => b"#:",
+            Primitive::Reverse => b"|.",
+            Primitive::Transpose => b"|:",
+            Primitive::Take => b"{.",
+            Primitive::Tail => b"{:",
+            Primitive::Drop => b"}.",
+            Primitive::Curtail => b"}:",
+            Primitive::From => b"{",
+            Primitive::IndexOf => b"i.",
+            Primitive::LastIndexOf => b"i:",
+            Primitive::Indices => b"I.",
+            Primitive::Member => b"e.",
+            Primitive::GradeUp => b"/:",
+            Primitive::GradeDown => b"\\:",
+            Primitive::Left => b"[",
+            Primitive::Right => b"]",
+            Primitive::Cap => b"[:",
+            Primitive::Format => b"\":",
+            Primitive::MinusNine => b"_9:",
+            Primitive::MinusEight => b"_8:",
+            Primitive::MinusSeven => b"_7:",
+            Primitive::MinusSix => b"_6:",
+            Primitive::MinusFive => b"_5:",
+            Primitive::MinusFour => b"_4:",
+            Primitive::MinusThree => b"_3:",
+            Primitive::MinusTwo => b"_2:",
+            Primitive::MinusOne => b"_1:",
+            Primitive::Zero => b"0:",
+            Primitive::One => b"1:",
+            Primitive::Two => b"2:",
+            Primitive::Three => b"3:",
+            Primitive::Four => b"4:",
+            Primitive::Five => b"5:",
+            Primitive::Six => b"6:",
+            Primitive::Seven => b"7:",
+            Primitive::Eight => b"8:",
+            Primitive::Nine => b"9:",
+            Primitive::Echo => b"echo",
+            Primitive::Cocurrent => b"cocurrent",
+        }
+    }
+
+    fn first_spelled(word: &[u8]) -> Option<Primitive>
+        ensures { result ≡ spelled_of primitive_spelling primitive_words word.now }
+    {
+        PRIMITIVES.iter().copied().find(|p| p.spelling() == word)
+    }
+
+    /// The verb whose word this is.
+    pub fn spelled(word: &[u8]) -> Option<Primitive>
+        ensures value { result ≡ primitive_of word.now }
+        ensures inverse { (p : Primitive) → (result ≡ Some p) ↔ (IsTrue (is_primitive_word p) × (primitive_spelling p ≡ word.now)) }
+    {
+        Primitive::first_spelled(word)
+    }
+
+    /// The number of a constant verb.
+    pub fn constant(self) -> Option<i64>
+        ensures { result ≡ constant self }
+    {
+        match self {
+            Primitive::MinusNine => Some(-9),
+            Primitive::MinusEight => Some(-8),
+            Primitive::MinusSeven => Some(-7),
+            Primitive::MinusSix => Some(-6),
+            Primitive::MinusFive => Some(-5),
+            Primitive::MinusFour => Some(-4),
+            Primitive::MinusThree => Some(-3),
+            Primitive::MinusTwo => Some(-2),
+            Primitive::MinusOne => Some(-1),
+            Primitive::Zero => Some(0),
+            Primitive::One => Some(1),
+            Primitive::Two => Some(2),
+            Primitive::Three => Some(3),
+            Primitive::Four => Some(4),
+            Primitive::Five => Some(5),
+            Primitive::Six => Some(6),
+            Primitive::Seven => Some(7),
+            Primitive::Eight => Some(8),
+            Primitive::Nine => Some(9),
+            _ => None,
+        }
+    }
 }

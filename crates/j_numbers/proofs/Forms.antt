@@ -8,7 +8,7 @@ use Rattle.std.proofs.lemmas.Bool.{and_parts, cond-false, leb-true, eqb-true, ne
 use Rattle.std.proofs.lemmas.List.{take_all, drop_all, take-append-drop, append-nil}
 use Rattle.std.proofs.lemmas.List.Elements.{All-cons, All-nil}
 use Rattle.j_numbers.specs.declared.fault.NumberFault.TheVariants.{IllFormed}
-use Rattle.j_numbers.specs.declared.ranks.RankPart.TheVariants.{Infinite}
+use Rattle.j_noun.specs.declared.ranks.RankPart.TheVariants.{Infinite}
 use Rattle.j_numbers.specs.Capped.{capped}
 use Rattle.j_numbers.specs.Numbers.{is_blank, is_empty, are_digits, is_minus, unsigned, signed, plain, is_mark, split_number, number_of, ranged, is_infinity, part_value}
 use Rattle.j_numbers.proofs.Sizes.{plain_alike}

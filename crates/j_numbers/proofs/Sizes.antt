@@ -9,7 +9,7 @@ use Rattle.std.specs.Str.{all_ascii_digits}
 use Rattle.std.proofs.Math.Nat.{le-mul_of_pos_right, pow-le-pow_right}
 use Rattle.j_definitions.specs.Scalars.{in_range}
 use Rattle.j_numbers.specs.declared.fault.NumberFault.TheVariants.{Overflow, IllFormed}
-use Rattle.j_numbers.specs.declared.ranks.RankPart.TheVariants.{Number}
+use Rattle.j_noun.specs.declared.ranks.RankPart.TheVariants.{Number}
 use Rattle.j_numbers.specs.Capped.{capped}
 use Rattle.j_numbers.specs.Numbers.{signed, ranged, is_minus, unsigned, are_digits, are_base_digits, is_base_digit, plain, scaled, based}
 

@@ -1,4 +1,3 @@
-pub mod Ranks
 pub mod Numbers
 pub mod Literals
 pub mod Printed

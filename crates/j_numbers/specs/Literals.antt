@@ -6,8 +6,8 @@ use Rattle.j_numbers.specs.declared.fault.NumberFault.{NumberFault}
 use Rattle.j_numbers.specs.declared.fault.NumberFault.TheVariants.{IllFormed, NoMemory}
 use Rattle.j_numbers.specs.declared.literal.Literal.{Literal}
 use Rattle.j_numbers.specs.declared.literal.Literal.TheVariants.{Noun, Ranks}
-use Rattle.j_numbers.specs.declared.ranks.RankPart.{RankPart}
-use Rattle.j_numbers.specs.declared.ranks.RankPart.TheVariants.{Number, Infinite}
+use Rattle.j_noun.specs.declared.ranks.RankPart.{RankPart}
+use Rattle.j_noun.specs.declared.ranks.RankPart.TheVariants.{Number, Infinite}
 use Rattle.j_numbers.specs.Numbers.{literal}
 
 -- one number is an atom, several are a list

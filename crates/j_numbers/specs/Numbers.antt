@@ -8,8 +8,8 @@ use Rattle.j_definitions.specs.Cells.{in_order}
 use Rattle.j_definitions.specs.Scalars.{in_range}
 use Rattle.j_numbers.specs.declared.fault.NumberFault.{NumberFault}
 use Rattle.j_numbers.specs.declared.fault.NumberFault.TheVariants.{IllFormed, Overflow, Limit}
-use Rattle.j_numbers.specs.declared.ranks.RankPart.{RankPart}
-use Rattle.j_numbers.specs.declared.ranks.RankPart.TheVariants.{Number, Infinite}
+use Rattle.j_noun.specs.declared.ranks.RankPart.{RankPart}
+use Rattle.j_noun.specs.declared.ranks.RankPart.TheVariants.{Number, Infinite}
 
 -- a space or a tab
 abbrev pub is_blank : ℕ → Bool

@@ -5,7 +5,7 @@ use Rattle.j_definitions.specs.Cells.{in_order}
 use Rattle.j_numbers.specs.declared.fault.NumberFault.{NumberFault}
 use Rattle.j_numbers.specs.declared.fault.NumberFault.TheVariants.{Limit}
 use Rattle.j_numbers.specs.declared.literal.Literal.{Literal}
-use Rattle.j_numbers.specs.declared.ranks.RankPart.{RankPart}
+use Rattle.j_noun.specs.declared.ranks.RankPart.{RankPart}
 use Rattle.j_numbers.specs.Numbers.{parts, part_value, within_limit}
 use Rattle.j_numbers.specs.Literals.{literal_of, noun_of}
 

@@ -1,6 +1,6 @@
 // How numbers are printed.
 ghost use Rattle.std.specs.Prelude.{◌≡◌, ◌≤◌, ◌+◌, [], ◌∷◌, ◌++◌, length, Bool, Ok as OkValue};
-ghost use Rattle.j_numbers.specs.declared.ranks.RankPart.TheVariants.{Number};
+ghost use Rattle.j_noun.specs.declared.ranks.RankPart.TheVariants.{Number};
 ghost use Rattle.j_numbers.specs.Numbers.{literal};
 ghost use Rattle.j_numbers.specs.Printed.{printed};
 

@@ -5,13 +5,12 @@ mod digits;
 mod fault;
 mod literal;
 mod part;
-mod ranks;
 mod rows;
 mod words;
 
 pub use digits::{Digits, print};
 pub use fault::NumberFault;
+pub use j_noun::{RankList, RankPart};
 pub use literal::Literal;
-pub use ranks::{RankList, RankPart};
 pub use rows::worked_rows;
 pub use words::{read_list, read_noun};

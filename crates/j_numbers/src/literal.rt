@@ -1,5 +1,4 @@
-use crate::ranks::RankList;
-use j_noun::Noun;
+use j_noun::{Noun, RankList};
 
 /// What a number word gives.
 #[derive(Drop)]

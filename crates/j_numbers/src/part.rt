@@ -7,7 +7,7 @@ ghost use Rattle.j_numbers.specs.Numbers.{are_digits, is_base_digit, are_base_di
 ghost use Rattle.j_numbers.specs.Capped.{capped};
 
 use crate::fault::NumberFault;
-use crate::ranks::RankPart;
+use j_noun::RankPart;
 
 // The largest size, which only a negative number has.
 const MOST_NEGATIVE: u64 = 9_223_372_036_854_775_808;

@@ -3,7 +3,7 @@ ghost use Rattle.std.specs.Prelude.{◌≡◌, ◌∷◌, [], codes, pos, negsuc
 ghost use Rattle.j_definitions.specs.Array.{number};
 ghost use Rattle.j_definitions.specs.declared.Kind.TheVariants.{Number as NumberKind};
 ghost use Rattle.j_numbers.specs.declared.fault.NumberFault.TheVariants.{IllFormed, Overflow};
-ghost use Rattle.j_numbers.specs.declared.ranks.RankPart.TheVariants.{Number, Infinite};
+ghost use Rattle.j_noun.specs.declared.ranks.RankPart.TheVariants.{Number, Infinite};
 ghost use Rattle.j_numbers.specs.declared.literal.Literal.TheVariants.{Noun, Ranks};
 ghost use Rattle.j_numbers.specs.Numbers.{literal};
 ghost use Rattle.j_numbers.specs.Literals.{read};

@@ -6,13 +6,12 @@ ghost use Rattle.j_definitions.specs.Cells.{in_order};
 ghost use Rattle.j_numbers.specs.Numbers.{is_blank, parts};
 ghost use Rattle.j_numbers.specs.Literals.{number_list, read, noun, IsFaultOf};
 ghost use Rattle.j_numbers.specs.Readings.{values, read_after, limit_or_fault};
-ghost use Rattle.j_numbers.specs.declared.ranks.RankPart.TheVariants.{Number, Infinite};
+ghost use Rattle.j_noun.specs.declared.ranks.RankPart.TheVariants.{Number, Infinite};
 
 use crate::fault::NumberFault;
 use crate::literal::Literal;
 use crate::part::read_part;
-use crate::ranks::{RankList, RankPart};
-use j_noun::{Atoms, Noun, Refusal, Shape};
+use j_noun::{Atoms, Noun, RankList, RankPart, Refusal, Shape};
 use std::alloc::Global;
 
 const MOST_PARTS: usize = 4_194_304;
@@ -136,7 +135,10 @@ fn read_ranks(alloc: Global, numbers: &[i64], text: &[u8]) -> Result<Literal, Nu
         }
         rest = after;
     }
-    Ok(Literal::Ranks(RankList::new(ranks)))
+    match RankList::make(alloc, ranks) {
+        Ok(list) => Ok(Literal::Ranks(list)),
+        Err(_) => Err(NumberFault::NoMemory),
+    }
 }
 
 /// The noun of a number word, or its ranks where a part is `_`.

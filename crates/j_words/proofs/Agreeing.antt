@@ -35,6 +35,11 @@ entry_agrees : (o : Option Entry) → Agree (let_through o) (Ok (class_or_name o
 entry_agrees None = tt
 entry_agrees (Some e) = stage_agrees e.stage e.class
 
+pub class_let_through : (w : List ℕ) (c : Class) → let_through (look_up w) ≡ Ok c → class_or_name (look_up w) ≡ c
+class_let_through w c h =
+    let same : Ok (class_or_name (look_up w)) ≡ Ok c = subst (λ r. Agree r (Ok (class_or_name (look_up w)))) h (entry_agrees (look_up w)) in
+    cc
+
 fault_agrees : (t : Bool) (f g : WordFault) (r : Result Class WordFault) → Agree (cond t (Err f) (Err g)) r
 fault_agrees true f g r = tt
 fault_agrees false f g r = tt

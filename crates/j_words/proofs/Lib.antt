@@ -2,6 +2,7 @@ pub mod Places
 pub mod Scans
 pub mod Texts
 pub mod NameLaws
+pub mod NameForms
 pub mod Joins
 pub mod Lying
 pub mod Plain

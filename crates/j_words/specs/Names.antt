@@ -1,6 +1,8 @@
 -- Names: letters, digits and `_`, of which the `_` say what a name is.
 use Rattle.std.specs.Prelude.{ℕ, suc, ◌+◌, ◌-◌, ◌==◌, ◌||◌, ◌&&◌, not, Bool, true, false, cond, nat_lt, List, [], ◌∷◌, length, take, drop, Option, Some, None, Result, Ok, Err}
 use Rattle.std.specs.Char.{is_ascii_alphabetic}
+use Rattle.j_words.specs.Bytes.{is_in, run}
+use Rattle.j_words.specs.declared.bytes.Set.TheVariants as set
 use Rattle.j_words.specs.declared.Class.{Class}
 use Rattle.j_words.specs.declared.Class.TheVariants as class
 use Rattle.j_words.specs.declared.WordFault.{WordFault}
@@ -13,6 +15,10 @@ begins_low (b ∷ bs) = b == 95
 abbrev pub begins_letter : List ℕ → Bool
 begins_letter [] = false
 begins_letter (b ∷ bs) = is_ascii_alphabetic b
+
+-- a letter, and then letters, digits and `_`
+abbrev pub has_name_bytes : List ℕ → Bool
+has_name_bytes name = begins_letter name && (run (is_in set.Name) name == length name)
 
 -- the place of the first `__`, or the length where there is none
 abbrev pub double_at : List ℕ → ℕ

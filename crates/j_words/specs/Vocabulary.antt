@@ -1,9 +1,7 @@
 -- The vocabulary: which words there are, what they are, and which are left out so far.
 use Rattle.std.specs.Prelude.{ℕ, nat_lt, ◌-◌, ◌==◌, ◌&&◌, Bool, cond, List, [], ◌∷◌, length, take, drop, Option, Some, None, Result, Ok, Err, codes, bytes_eq}
 use Rattle.std.specs.List.{slice_split, list_any}
-use Rattle.j_words.specs.Bytes.{is_in, run}
-use Rattle.j_words.specs.Names.{begins_letter, is_simple, name_class}
-use Rattle.j_words.specs.declared.bytes.Set.TheVariants as set
+use Rattle.j_words.specs.Names.{has_name_bytes, is_simple, name_class}
 use Rattle.j_words.specs.declared.Class.{Class}
 use Rattle.j_words.specs.declared.Class.TheVariants as class
 use Rattle.j_words.specs.declared.WordFault.{WordFault}
@@ -57,7 +55,7 @@ first_row word (r ∷ rs) = cond (is_among word r.text) (Some (record { class = 
 
 -- `for_`, a simple name and `.`
 abbrev pub is_simple_name : List ℕ → Bool
-is_simple_name name = begins_letter name && ((run (is_in set.Name) name == length name) && is_simple name)
+is_simple_name name = has_name_bytes name && is_simple name
 
 abbrev pub is_for : List ℕ → Bool
 is_for word =

@@ -9,7 +9,8 @@ mod rows;
 mod vocabulary;
 
 pub use line::{spans, words};
-pub use rows::{name_laws, text_laws, worked_rows};
+pub use names::{NameForm, name_form};
+pub use rows::{name_laws, text_laws, vocabulary_laws, worked_rows};
 
 /// What a word is.
 #[derive(Clone, Copy, PartialEq, Eq, Debug)]

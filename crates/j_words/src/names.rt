@@ -1,8 +1,18 @@
 // Names: what the `_` in them says.
 ghost use Rattle.std.specs.Prelude.{◌≡◌, ◌<◌, ◌≤◌, ◌+◌, length, IfSome};
-ghost use Rattle.j_words.specs.Names.{begins_low, begins_letter, double_at, last_low, ends_low, is_simple, has_locale, is_direct, is_object, name_class};
+ghost use Rattle.j_words.specs.Names.{begins_low, begins_letter, has_name_bytes, double_at, last_low, ends_low, is_simple, has_locale, is_direct, is_object, name_class};
+ghost use Rattle.j_words.specs.NameForms.{name_form, EndsWithin};
 
+use crate::bytes::{Set, run};
 use crate::{Class, WordFault};
+
+/// What a name is: simple, or a locative with the place where its base ends.
+#[derive(Clone, Copy, PartialEq, Eq, Debug)]
+pub enum NameForm {
+    Simple,
+    Direct(usize),
+    Object(usize),
+}
 
 fn begins_low(bytes: &[u8]) -> bool
     ensures { result ≡ begins_low bytes.now }
@@ -14,6 +24,13 @@ pub(crate) fn begins_letter(bytes: &[u8]) -> bool
     ensures { result ≡ begins_letter bytes.now }
 {
     !bytes.is_empty() && bytes[0].is_ascii_alphabetic()
+}
+
+/// Whether the bytes are a letter, and then letters, digits and `_`.
+pub(crate) fn has_name_bytes(name: &[u8]) -> bool
+    ensures { result ≡ has_name_bytes name.now }
+{
+    begins_letter(name) && run(Set::Name, name) == name.len()
 }
 
 /// The place of the first `__`, or the length where there is none.
@@ -97,4 +114,28 @@ pub(crate) fn name_class(name: &[u8]) -> Result<Class, WordFault>
         return Err(WordFault::Nonce);
     }
     Err(WordFault::Spelling)
+}
+
+/// What a name is, or nothing where the bytes are no name.
+#[tactic(auto, using(crate::proofs::NameForms::direct_ends, crate::proofs::NameForms::object_ends))]
+pub fn name_form(name: &[u8]) -> Option<NameForm>
+    ensures same { result ≡ name_form name.now }
+    ensures within { IfSome result (EndsWithin (length name.now)) }
+{
+    if !has_name_bytes(name) {
+        return None;
+    }
+    if is_simple(name) {
+        return Some(NameForm::Simple);
+    }
+    if is_direct(name) {
+        return match last_low(&name[..name.len() - 1]) {
+            Some(n) => Some(NameForm::Direct(n)),
+            None => None,
+        };
+    }
+    if is_object(name) {
+        return Some(NameForm::Object(double_at(name)));
+    }
+    None
 }

@@ -3,7 +3,9 @@ ghost use Rattle.std.specs.Prelude.{ℕ, List, true, ◌<◌, ◌==◌, length, 
 ghost use Rattle.j_words.specs.Forms.{text_bytes, doubled, begins_quote};
 ghost use Rattle.std.specs.List.{list_any};
 ghost use Rattle.j_words.specs.Names.{begins_letter, is_simple, is_direct, is_object};
+ghost use Rattle.j_words.specs.Vocabulary.{look_up, let_through, class_or_name};
 ghost use Rattle.j_words.specs.Lines.{words, spans, is_word};
+ghost use Rattle.j_words.specs.declared.Class.{Class};
 ghost use Rattle.j_words.specs.declared.Class.TheVariants as class;
 ghost use Rattle.j_words.specs.declared.WordFault.TheVariants as fault;
 
@@ -59,4 +61,9 @@ pub fn text_laws()
 pub fn name_laws()
     ensures object { (base object : List ℕ) → is_simple base ≡ true → begins_letter object ≡ true → is_simple object ≡ true → is_object (base ++ 95 ∷ 95 ∷ object) ≡ true }
     ensures direct { (base place : List ℕ) → is_simple base ≡ true → 0 < length place → list_any (λ b. b == 95) place ≡ false → is_direct ((base ++ 95 ∷ place) ++ 95 ∷ []) ≡ true }
+{}
+
+/// Laws: a word that is let through has the class that it has in the vocabulary.
+pub fn vocabulary_laws()
+    ensures { (w : List ℕ) (c : Class) → let_through (look_up w) ≡ Ok c → class_or_name (look_up w) ≡ c }
 {}

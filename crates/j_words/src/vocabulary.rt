@@ -2,10 +2,9 @@
 ghost use Rattle.std.specs.Prelude.{◌≡◌, bytes_eq, map};
 ghost use Rattle.j_words.specs.Vocabulary.{is_among, first_row, row_of, is_simple_name, is_for, look_up, let_through, class_or_name, class_of};
 
-use crate::bytes::{Set, run};
 use crate::forms::Form;
 use crate::line::Reading;
-use crate::names::{begins_letter, is_simple, name_class};
+use crate::names::{has_name_bytes, is_simple, name_class};
 use crate::{Class, WordFault};
 
 /// When words are let through.
@@ -141,7 +140,7 @@ fn first_row(word: &[u8], rows: &[Row]) -> Option<Entry>
 fn is_simple_name(name: &[u8]) -> bool
     ensures { result ≡ is_simple_name name.now }
 {
-    begins_letter(name) && run(Set::Name, name) == name.len() && is_simple(name)
+    has_name_bytes(name) && is_simple(name)
 }
 
 /// Whether the word is the control word with a simple name in it.

@@ -1,5 +1,5 @@
 use Rattle.std.proofs.Common.{◌≡◌, ◌≤◌, map, length}
-use Rattle.j_numbers.specs.declared.ranks.RankPart.TheVariants.{Number}
+use Rattle.j_noun.specs.declared.ranks.RankPart.TheVariants.{Number}
 use Rattle.j_numbers.specs.Literals.{read}
 use Rattle.j_numbers.specs.Readings.{read_after}
 use Rattle.j_numbers.proofs.words.read_list.Given as goal

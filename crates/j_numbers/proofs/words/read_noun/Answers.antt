@@ -1,6 +1,6 @@
 use Rattle.std.proofs.Common.{length, Err, ◌≤◌, sym, ap, ◌∙◌, arith}
 use Rattle.j_numbers.proofs.Readings.{fault_given, noun_beyond}
-use Rattle.j_numbers.specs.declared.ranks.RankPart.TheVariants.{Number}
+use Rattle.j_noun.specs.declared.ranks.RankPart.TheVariants.{Number}
 use Rattle.std.specs.Prelude.{map}
 use Rattle.std.proofs.lemmas.List.{length-map}
 use Rattle.j_numbers.proofs.words.read_noun.Goals as goal

@@ -1,5 +1,5 @@
 use Rattle.std.proofs.Common.{◌≡◌, ◌≤◌, map, length}
-use Rattle.j_numbers.specs.declared.ranks.RankPart.TheVariants.{Number}
+use Rattle.j_noun.specs.declared.ranks.RankPart.TheVariants.{Number}
 use Rattle.j_numbers.specs.Literals.{noun}
 use Rattle.j_numbers.specs.Readings.{noun_after}
 use Rattle.j_numbers.proofs.words.read_noun.Given as goal

@@ -1,7 +1,7 @@
 use Rattle.std.proofs.Common.{◌≡◌, ◌≤◌, ◌∷◌, [], ◌++◌, true, map, length}
 use Rattle.std.specs.List.{list_any}
-use Rattle.j_numbers.specs.declared.ranks.RankPart.TheVariants.{Number, Infinite}
-use Rattle.j_numbers.specs.Ranks.{is_infinite}
+use Rattle.j_noun.specs.declared.ranks.RankPart.TheVariants.{Number, Infinite}
+use Rattle.j_noun.specs.Ranks.{is_infinite}
 use Rattle.j_numbers.specs.Readings.{read_after}
 use Rattle.j_numbers.proofs.words.read_ranks.Given as goal
 

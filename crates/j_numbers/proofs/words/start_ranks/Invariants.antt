@@ -1,5 +1,5 @@
 use Rattle.std.proofs.Common.{◌≡◌, map, take}
-use Rattle.j_numbers.specs.declared.ranks.RankPart.TheVariants.{Number}
+use Rattle.j_noun.specs.declared.ranks.RankPart.TheVariants.{Number}
 use Rattle.j_numbers.proofs.words.start_ranks.Given as goal
 
 abbrev pub invariant-loop-n : goal.invariant-loop-n

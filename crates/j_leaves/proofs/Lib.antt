@@ -1,0 +1,3 @@
+pub mod Names
+mod Inverse
+pub mod Listed
