@@ -10,3 +10,6 @@ pub use fault::LineFault;
 pub use j_entity::{Entity, Item, Prepared};
 pub use reading::prepare;
 pub use rows::worked_rows;
+
+#[cfg(test)]
+mod tests;
