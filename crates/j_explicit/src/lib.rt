@@ -9,7 +9,7 @@ mod rows;
 pub use fault::LineFault;
 pub use j_entity::{Entity, Item, Prepared};
 pub use reading::prepare;
-pub use rows::worked_rows;
+pub use rows::{spelling_laws, worked_rows};
 
 #[cfg(test)]
 mod tests;

@@ -1,10 +1,11 @@
-// Lines worked out by hand.
-ghost use Rattle.std.specs.Prelude.{◌≡◌, ◌∷◌, [], codes, pos, negsuc, Ok, Err};
+// Lines worked out by hand, and what holds of every word.
+ghost use Rattle.std.specs.Prelude.{ℕ, List, ◌≡◌, ◌≢◌, ◌∷◌, [], codes, pos, negsuc, Ok, Err};
 ghost use Rattle.j_definitions.specs.declared.Fault.TheVariants as fault;
+ghost use Rattle.j_words.specs.Vocabulary.{look_up, class_or_name};
 ghost use Rattle.j_leaves.specs.declared.primitive.Primitive.TheVariants as p;
 ghost use Rattle.j_leaves.specs.declared.modifier.Modifier.TheVariants as m;
 ghost use Rattle.j_entity.specs.Tree.{local_copula, global_copula, open_mark, close_mark};
-ghost use Rattle.j_explicit.specs.Reading.{reading};
+ghost use Rattle.j_explicit.specs.Reading.{item_as, reading};
 ghost use Rattle.j_explicit.specs.Rows.{atom, list, verb, conjunction};
 
 /// Laws: lines worked out by hand.
@@ -24,4 +25,10 @@ pub fn worked_rows()
     ensures infinite { reading (codes "1 _") ≡ Err fault.IllFormed }
     ensures left_to_right { reading (codes "1x f 1e19") ≡ Err fault.IllFormed }
     ensures words_first { reading (codes "1x f abc.") ≡ Err fault.Spelling }
+{}
+
+/// Laws: no word of the vocabulary, let through now or only later, is misspelled as what its class says.
+#[tactic(auto, using(crate::proofs::Known::spelled))]
+pub fn spelling_laws()
+    ensures { (w : List ℕ) → item_as (class_or_name (look_up w)) w ≢ Err fault.Spelling }
 {}

@@ -1,3 +1,5 @@
+ghost use Rattle.std.specs.Prelude.{◌≤◌, length};
+
 use crate::{LineFault, prepare};
 use j_noun::Fault;
 use std::alloc::Global;
@@ -5,7 +7,9 @@ use std::process::Abort;
 use std::test::Fail;
 
 // Reads a line that has no fault.
-fn count(alloc: Global, line: &[u8]) -> Result<usize, Fail> {
+fn count(alloc: Global, line: &[u8]) -> Result<usize, Fail>
+    requires { length line.now ≤ 16777216 }
+{
     let sentence = prepare(alloc, line).ok().ok_or("no sentence")?;
     Ok(sentence.count())
 }
@@ -19,7 +23,9 @@ fn reads_lines(rt: HostRuntime) -> Result<(), Fail> {
     Ok(())
 }
 
-fn fails(rt: &impl Abort, alloc: Global, line: &[u8], fault: Fault) {
+fn fails(rt: &impl Abort, alloc: Global, line: &[u8], fault: Fault)
+    requires { length line.now ≤ 16777216 }
+{
     let refused = prepare(alloc, line).err();
     assert_eq!(rt; refused, Some(LineFault::Fault(fault)));
 }
