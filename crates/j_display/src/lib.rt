@@ -6,3 +6,6 @@ mod rows;
 
 pub use display::show;
 pub use rows::worked_rows;
+
+#[cfg(test)]
+mod tests;

@@ -1,0 +1,19 @@
+-- Words of sentences, as rows worked out by hand name them.
+use Rattle.std.specs.Prelude.{ℤ, List, [], ◌∷◌, map, length}
+use Rattle.j_definitions.specs.Array.{number}
+use Rattle.j_definitions.specs.declared.Kind.TheVariants.{Number}
+use Rattle.j_leaves.specs.declared.primitive.Primitive.{Primitive}
+use Rattle.j_leaves.specs.declared.modifier.Modifier.{Modifier}
+use Rattle.j_entity.specs.Tree.{WordTree, entity, a_noun, a_verb, a_conjunction, primitive, modifier}
+
+abbrev pub atom : ℤ → WordTree
+atom z = entity (a_noun (record { kind = Number; shape = []; atoms = number z ∷ [] }))
+
+abbrev pub list : List ℤ → WordTree
+list zs = entity (a_noun (record { kind = Number; shape = length zs ∷ []; atoms = map number zs }))
+
+abbrev pub verb : Primitive → WordTree
+verb p = entity (a_verb (primitive p))
+
+abbrev pub conjunction : Modifier → WordTree
+conjunction m = entity (a_conjunction (modifier m))

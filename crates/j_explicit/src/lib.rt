@@ -1,0 +1,15 @@
+//! What a line says: the words of its sentence as nouns, verbs, adverbs, conjunctions, copulas and parentheses.
+#![tactic(auto)]
+
+mod fault;
+mod item;
+mod reading;
+mod rows;
+
+pub use fault::LineFault;
+pub use j_entity::{Entity, Item, Prepared};
+pub use reading::prepare;
+pub use rows::{spelling_laws, worked_rows};
+
+#[cfg(test)]
+mod tests;

@@ -1,0 +1,34 @@
+// Lines worked out by hand, and what holds of every word.
+ghost use Rattle.std.specs.Prelude.{ℕ, List, ◌≡◌, ◌≢◌, ◌∷◌, [], codes, pos, negsuc, Ok, Err};
+ghost use Rattle.j_definitions.specs.declared.Fault.TheVariants as fault;
+ghost use Rattle.j_words.specs.Vocabulary.{look_up, class_or_name};
+ghost use Rattle.j_leaves.specs.declared.primitive.Primitive.TheVariants as p;
+ghost use Rattle.j_leaves.specs.declared.modifier.Modifier.TheVariants as m;
+ghost use Rattle.j_entity.specs.Tree.{local_copula, global_copula, open_mark, close_mark};
+ghost use Rattle.j_explicit.specs.Reading.{item_as, reading};
+ghost use Rattle.j_explicit.specs.Rows.{atom, list, verb, conjunction};
+
+/// Laws: lines worked out by hand.
+pub fn worked_rows()
+    ensures fork { reading (codes "5 (+ - *) 3") ≡ Ok (atom (pos 5) ∷ open_mark ∷ verb p.Plus ∷ verb p.Minus ∷ verb p.Times ∷ close_mark ∷ atom (pos 3) ∷ []) }
+    ensures hook { reading (codes "(+ *) 3") ≡ Ok (open_mark ∷ verb p.Plus ∷ verb p.Times ∷ close_mark ∷ atom (pos 3) ∷ []) }
+    ensures conjunction_first { reading (codes "- (@: *) 5") ≡ Ok (verb p.Minus ∷ open_mark ∷ conjunction m.At ∷ verb p.Times ∷ close_mark ∷ atom (pos 5) ∷ []) }
+    ensures verbs { reading (codes "+ -") ≡ Ok (verb p.Plus ∷ verb p.Minus ∷ []) }
+    ensures brackets { reading (codes "[: ] [") ≡ Ok (verb p.Cap ∷ verb p.Right ∷ verb p.Left ∷ []) }
+    ensures constant { reading (codes "_3: 0") ≡ Ok (verb p.MinusThree ∷ atom (pos 0) ∷ []) }
+    ensures global { reading (codes "3 =: 4") ≡ Ok (atom (pos 3) ∷ global_copula ∷ atom (pos 4) ∷ []) }
+    ensures local { reading (codes "3=.4 _1") ≡ Ok (atom (pos 3) ∷ local_copula ∷ list (pos 4 ∷ negsuc 0 ∷ []) ∷ []) }
+    ensures unlike_parentheses { reading (codes ")(") ≡ Ok (close_mark ∷ open_mark ∷ []) }
+    ensures no_words { reading (codes "  NB. +") ≡ Ok [] }
+    ensures name { reading (codes "f 1") ≡ Err fault.Nonce }
+    ensures letter { reading (codes "1x") ≡ Err fault.IllFormed }
+    ensures infinite { reading (codes "1 _") ≡ Err fault.IllFormed }
+    ensures left_to_right { reading (codes "1x f 1e19") ≡ Err fault.IllFormed }
+    ensures words_first { reading (codes "1x f abc.") ≡ Err fault.Spelling }
+{}
+
+/// Laws: no word of the vocabulary, let through now or only later, is misspelled as what its class says.
+#[tactic(auto, using(crate::proofs::Known::spelled))]
+pub fn spelling_laws()
+    ensures { (w : List ℕ) → item_as (class_or_name (look_up w)) w ≢ Err fault.Spelling }
+{}
