@@ -24,7 +24,6 @@ use Rattle.j_entity.specs.declared.entity.Entity.TheVariants as e
 use Rattle.j_entity.specs.declared.entity.Item.{Item}
 use Rattle.j_entity.specs.declared.entity.Item.TheVariants as i
 use Rattle.j_entity.specs.declared.entity.Part.{Part}
-use Rattle.j_entity.specs.declared.entity.Prepared.{Prepared}
 
 operand_falls : (u : Operand) → deep-Operand u ≤ suc (operand_depth (operand_of u))
 operand_falls (u.Verb v) = omega arith

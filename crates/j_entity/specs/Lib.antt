@@ -8,3 +8,4 @@ pub mod Words
 pub mod Kept
 pub mod Deep
 pub mod Lent
+pub mod Rows

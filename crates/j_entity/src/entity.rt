@@ -55,6 +55,10 @@ struct MadeVerb {
     ranks: Ranks,
 }
 
+const _: () = prove!(size_of::<Verb>() <= 16);
+
+const _: () = prove!(size_of::<Operator>() <= 16);
+
 impl Model for Verb {
     ghost use Rattle.j_entity.specs.Tree.{VerbTree, verb_depth};
     ghost use Rattle.j_entity.specs.Code.{coded_verb};
