@@ -6,7 +6,7 @@ ghost use Rattle.j_entity.specs.Kept.{IsMade, IsMadeOperator};
 ghost use Rattle.j_entity.specs.Lent.{lent_verb, lent_operator};
 ghost use Rattle.j_entity.specs.Ranks.{verb_ranks};
 ghost use Rattle.j_entity.specs.View.{verb_of, operand_of, operator_of, word_of, placed, entity_of};
-ghost use Rattle.j_entity.specs.Words.{is_primitive, is_modifier};
+ghost use Rattle.j_entity.specs.Words.{is_primitive, is_modifier, IsInlineOperand, IsInlineEntity};
 
 use crate::ranks::primitive_ranks;
 use crate::tree::{OperatorTree, Tree};
@@ -15,6 +15,9 @@ use j_noun::{Fault, NoMemory, Noun, RankList, Refusal};
 use std::alloc::Global;
 use std::marker::Model;
 use std::rc::Rc;
+
+/// Nothing is made higher than this.
+const HEIGHT_LIMIT: u8 = 64;
 
 /// The parts of a verb: one variant for each kind of tree.
 #[cycle(entity)]
@@ -318,7 +321,7 @@ fn made_verb(alloc: Global, parts: Parts) -> Result<Verb, Refusal>
     ensures err { IfErr result (IsRefusedBeyond (verb_height (verb_of parts) ≤ 64)) }
 {
     let height = parts.height();
-    if height > 64 {
+    if height > HEIGHT_LIMIT {
         return Err(Refusal::Fault(Fault::Limit));
     }
     let ranks = parts.ranks();
@@ -450,7 +453,7 @@ fn made_operator(alloc: Global, parts: OperatorParts) -> Result<Operator, Refusa
     ensures err { IfErr result (IsRefusedBeyond (operator_height (operator_of parts) ≤ 64)) }
 {
     let height = parts.height();
-    if height > 64 {
+    if height > HEIGHT_LIMIT {
         return Err(Refusal::Fault(Fault::Limit));
     }
     Ok(shared_operator(alloc, parts, height)?)
@@ -472,7 +475,8 @@ fn shared_operator(alloc: Global, parts: OperatorParts, height: u8) -> Result<Op
 impl Operand {
     /// An equal operand, which shares its parts.
     pub fn duplicate(&self) -> Result<Operand, NoMemory>
-        ensures { IfOk result (λ u. operand_of u ≡ operand_of self.now) }
+        ensures ok { IfOk result (λ u. operand_of u ≡ operand_of self.now) }
+        ensures inline { IsInlineOperand (operand_of self.now) → IsOk result }
     {
         match self {
             Operand::Verb(v) => Ok(Operand::Verb(v.duplicate()?)),
@@ -485,7 +489,8 @@ impl Operand {
 impl Entity {
     /// An equal entity, which shares its parts.
     pub fn duplicate(&self) -> Result<Entity, NoMemory>
-        ensures { IfOk result (λ e. entity_of e ≡ entity_of self.now) }
+        ensures ok { IfOk result (λ e. entity_of e ≡ entity_of self.now) }
+        ensures inline { IsInlineEntity (entity_of self.now) → IsOk result }
     {
         match self {
             Entity::Noun(n) => Ok(Entity::Noun(n.duplicate()?)),
