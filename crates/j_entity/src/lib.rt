@@ -14,3 +14,6 @@ pub use j_leaves::{Modifier, Move, Name, Place, Primitive, Ranks, Text};
 pub use j_noun::{Rank, RankList, RankPart};
 pub use rows::{height_rows, rank_rows, sentence_rows};
 pub use tree::{OperatorTree, Tree};
+
+#[cfg(test)]
+mod tests;
