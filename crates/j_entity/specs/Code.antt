@@ -1,8 +1,7 @@
 -- How the logic stores a tree: as a binary tree of leaves, from which it is read back.
-use Rattle.std.proofs.Common.{◌≡◌, ℕ, zero, suc, ℤ, pos, List, [], refl, ap, inl, inr}
+use Rattle.std.proofs.Common.{◌≡◌, ℕ, zero, suc, ℤ, pos, List, [], refl, inl, inr}
 use Rattle.std.specs.Prelude.{◌⊎◌}
 use Rattle.std.specs.Coded.{Coded, code_by, coded_ℕ, coded_ℤ, coded_list, coded⊎}
-use base.Stored.{Gv, gnil, gnum, gcons}
 use Rattle.j_leaves.specs.declared.primitive.Primitive.{Primitive}
 use Rattle.j_leaves.specs.declared.primitive.Primitive.TheVariants.{Plus}
 use Rattle.j_leaves.specs.declared.modifier.Modifier.{Modifier}

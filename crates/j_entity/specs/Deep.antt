@@ -4,8 +4,13 @@ use Rattle.std.proofs.Common.{arith}
 use denote.Param.Weighed.{most}
 use Rattle.j_entity.specs.Tree.{verb_depth, operand_depth, operator_depth, sentence_depth, sentences_depth, part_depth, word_depth, entity_depth, body_depth, WordTree}
 use Rattle.j_entity.specs.View.{verb_of, operand_of, operator_of, entity_of, word_of, words_tree, sentences_of, part_of, held_of}
-use Rattle.j_entity.specs.declared.entity.Body.TheDeep.{deep-Parts, deep-Operand, deep-OperatorParts, deep-Entity, deep-Item, deep-Part, deep-Held}
+use Rattle.j_entity.specs.declared.entity.Body.TheDeep.{deep-VerbForm, deep-Parts, deep-Operand, deep-OperatorForm, deep-OperatorParts, deep-Entity, deep-Item, deep-Part, deep-Held}
 use Rattle.j_entity.specs.declared.entity.Body.TheShapes.{weighed-BodyParts-monad}
+use Rattle.j_entity.specs.Kept.{formed_verb, formed_operator}
+use Rattle.j_entity.specs.declared.entity.VerbForm.{VerbForm}
+use Rattle.j_entity.specs.declared.entity.VerbForm.TheVariants as vf
+use Rattle.j_entity.specs.declared.entity.OperatorForm.{OperatorForm}
+use Rattle.j_entity.specs.declared.entity.OperatorForm.TheVariants as of
 use Rattle.j_entity.specs.declared.entity.Held.{Held}
 use Rattle.j_entity.specs.declared.entity.Held.TheVariants as h
 use Rattle.j_entity.specs.declared.entity.Parts.{Parts}
@@ -19,31 +24,38 @@ use Rattle.j_entity.specs.declared.entity.Entity.TheVariants as e
 use Rattle.j_entity.specs.declared.entity.Item.{Item}
 use Rattle.j_entity.specs.declared.entity.Item.TheVariants as i
 use Rattle.j_entity.specs.declared.entity.Part.{Part}
-use Rattle.j_entity.specs.declared.entity.Prepared.{Prepared}
 
 operand_falls : (u : Operand) → deep-Operand u ≤ suc (operand_depth (operand_of u))
 operand_falls (u.Verb v) = omega arith
 operand_falls (u.Noun n) = omega arith
 operand_falls (u.Ranks l) = omega arith
 
-pub verb_falls : (p : Parts) → max (deep-Parts p) 0 ≤ verb_depth (verb_of p)
-verb_falls (v.Primitive p) = omega arith
-verb_falls (v.Named n r) = omega arith
-verb_falls (v.Fork f g h) = omega arith
-verb_falls (v.NounFork n g h) = omega arith
-verb_falls (v.Hook g h) = omega arith
-verb_falls (v.Derived m u) = omega (arith, operand_falls u)
-verb_falls (v.Derived2 m u v) = omega (arith, operand_falls u, operand_falls v)
-verb_falls (v.Explicit b) = omega arith
-verb_falls (v.Explicit1 b u) = omega (arith, operand_falls u)
-verb_falls (v.Explicit2 b u v) = omega (arith, operand_falls u, operand_falls v)
+parts_fall : (p : Parts) → max (deep-Parts p) 0 ≤ verb_depth (verb_of p)
+parts_fall (v.Primitive p) = omega arith
+parts_fall (v.Named n r) = omega arith
+parts_fall (v.Fork f g h) = omega arith
+parts_fall (v.NounFork n g h) = omega arith
+parts_fall (v.Hook g h) = omega arith
+parts_fall (v.Derived m u) = omega (arith, operand_falls u)
+parts_fall (v.Derived2 m u v) = omega (arith, operand_falls u, operand_falls v)
+parts_fall (v.Explicit b) = omega arith
+parts_fall (v.Explicit1 b u) = omega (arith, operand_falls u)
+parts_fall (v.Explicit2 b u v) = omega (arith, operand_falls u, operand_falls v)
 
-pub operator_falls : (p : OperatorParts) → max (deep-OperatorParts p) 0 ≤ operator_depth (operator_of p)
-operator_falls (o.Primitive m) = omega arith
-operator_falls (o.Both a b) = omega arith
-operator_falls (o.Right c u) = omega (arith, operand_falls u)
-operator_falls (o.Left u c) = omega (arith, operand_falls u)
-operator_falls (o.Explicit b) = omega arith
+operator_parts_fall : (p : OperatorParts) → max (deep-OperatorParts p) 0 ≤ operator_depth (operator_of p)
+operator_parts_fall (o.Primitive m) = omega arith
+operator_parts_fall (o.Both a b) = omega arith
+operator_parts_fall (o.Right c u) = omega (arith, operand_falls u)
+operator_parts_fall (o.Left u c) = omega (arith, operand_falls u)
+operator_parts_fall (o.Explicit b) = omega arith
+
+pub verb_falls : (f : VerbForm) → max (deep-VerbForm f) 0 ≤ verb_depth (formed_verb f)
+verb_falls (vf.Primitive p) = omega arith
+verb_falls (vf.Made made) = omega (arith, parts_fall made.value.parts)
+
+pub operator_falls : (f : OperatorForm) → max (deep-OperatorForm f) 0 ≤ operator_depth (formed_operator f)
+operator_falls (of.Primitive m) = omega arith
+operator_falls (of.Made made) = omega (arith, operator_parts_fall made.value.parts)
 
 entity_falls : (e : Entity) → deep-Entity e ≤ suc (entity_depth (entity_of e))
 entity_falls (e.Noun n) = omega arith

@@ -4,6 +4,8 @@ pub mod Code
 pub mod View
 pub mod Heights
 pub mod Ranks
+pub mod Words
 pub mod Kept
 pub mod Deep
 pub mod Lent
+pub mod Rows

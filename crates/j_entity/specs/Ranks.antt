@@ -1,5 +1,5 @@
 -- The ranks of a verb.
-use Rattle.std.specs.Prelude.{ℕ, ℤ, pos, negsuc, ◌+◌, ◌==◌, cond, Bool, true, false, List, [], ◌∷◌, map}
+use Rattle.std.specs.Prelude.{ℕ, pos, negsuc, ◌+◌, ◌==◌, cond, Bool, true, false, List, [], ◌∷◌, map}
 use Rattle.j_definitions.specs.Array.{Array, Atom, number, byte, nested}
 use Rattle.j_leaves.specs.declared.primitive.Primitive.{Primitive}
 use Rattle.j_leaves.specs.declared.primitive.Primitive.TheVariants as p

@@ -1,15 +1,23 @@
 // Verbs, operators, bodies and sentences: one cycle of types, each seen as its tree.
-ghost use Rattle.std.specs.Prelude.{map, length, IsTrue, false, ◌≡◌, ◌≤◌, IfOk, IfErr};
+ghost use Rattle.std.specs.Prelude.{map, length, IsTrue, false, ◌≡◌, ◌≤◌, IfOk, IfErr, IsOk};
 ghost use Rattle.j_noun.specs.Refused.{IsRefusedBeyond};
 ghost use Rattle.j_entity.specs.Heights.{verb_height, operator_height};
+ghost use Rattle.j_entity.specs.Kept.{IsMade, IsMadeOperator};
+ghost use Rattle.j_entity.specs.Lent.{lent_verb, lent_operator};
 ghost use Rattle.j_entity.specs.Ranks.{verb_ranks};
 ghost use Rattle.j_entity.specs.View.{verb_of, operand_of, operator_of, word_of, placed, entity_of};
+ghost use Rattle.j_entity.specs.Words.{is_primitive, is_modifier, IsInlineOperand, IsInlineEntity};
 
+use crate::ranks::primitive_ranks;
+use crate::tree::{OperatorTree, Tree};
 use j_leaves::{Modifier, Move, Name, Primitive, Ranks};
 use j_noun::{Fault, NoMemory, Noun, RankList, Refusal};
 use std::alloc::Global;
 use std::marker::Model;
 use std::rc::Rc;
+
+/// Nothing is made higher than this.
+const HEIGHT_LIMIT: u8 = 64;
 
 /// The parts of a verb: one variant for each kind of tree.
 #[cycle(entity)]
@@ -27,14 +35,32 @@ pub enum Parts {
     Explicit2(Body, Operand, Operand),
 }
 
-/// A verb: its parts, which its copies share, with its height and its ranks.
+/// A verb. A primitive is kept inline, and copies of any other verb share its parts.
 #[cycle(entity)]
 #[derive(Drop)]
 pub struct Verb {
-    parts: Rc<Parts>,
+    form: VerbForm,
+}
+
+#[cycle(entity)]
+#[derive(Drop)]
+enum VerbForm {
+    Primitive(Primitive),
+    Made(Rc<MadeVerb>),
+}
+
+// The parts of a verb, with its height and its ranks.
+#[cycle(entity)]
+#[derive(Drop)]
+struct MadeVerb {
+    parts: Parts,
     height: u8,
     ranks: Ranks,
 }
+
+const _: () = prove!(size_of::<Verb>() <= 16);
+
+const _: () = prove!(size_of::<Operator>() <= 16);
 
 impl Model for Verb {
     ghost use Rattle.j_entity.specs.Tree.{VerbTree, verb_depth};
@@ -44,19 +70,17 @@ impl Model for Verb {
 
     ghost coded = { coded_verb };
 
-    ghost use Rattle.j_entity.specs.View.{verb_of};
+    ghost use Rattle.j_entity.specs.Kept.{formed_verb, IsKeptVerb};
 
-    ghost view = { λ v. verb_of v.parts.value };
+    ghost view = { λ v. formed_verb v.form };
 
-    ghost use Rattle.j_entity.specs.Kept.{IsKept};
-
-    ghost invariant = { λ v. IsKept v.height v.ranks (verb_of v.parts.value) };
+    ghost invariant = { λ v. IsKeptVerb v.form };
 
     ghost size = { verb_depth };
 
     ghost use Rattle.j_entity.specs.Deep.{verb_falls};
 
-    ghost size_decreases = { λ a h. verb_falls a.parts.value };
+    ghost size_decreases = { λ a h. verb_falls a.form };
 }
 
 /// What a modifier is applied to.
@@ -79,11 +103,25 @@ pub enum OperatorParts {
     Explicit(Body),
 }
 
-/// An adverb or a conjunction: its parts, which its copies share, with its height.
+/// An adverb or a conjunction. A modifier is kept inline, and copies of any other operator share its parts.
 #[cycle(entity)]
 #[derive(Drop)]
 pub struct Operator {
-    parts: Rc<OperatorParts>,
+    form: OperatorForm,
+}
+
+#[cycle(entity)]
+#[derive(Drop)]
+enum OperatorForm {
+    Primitive(Modifier),
+    Made(Rc<MadeOperator>),
+}
+
+// The parts of an operator, with its height.
+#[cycle(entity)]
+#[derive(Drop)]
+struct MadeOperator {
+    parts: OperatorParts,
     height: u8,
 }
 
@@ -95,19 +133,17 @@ impl Model for Operator {
 
     ghost coded = { coded_operator };
 
-    ghost use Rattle.j_entity.specs.View.{operator_of};
+    ghost use Rattle.j_entity.specs.Kept.{formed_operator, IsKeptOperator};
 
-    ghost view = { λ o. operator_of o.parts.value };
+    ghost view = { λ o. formed_operator o.form };
 
-    ghost use Rattle.j_entity.specs.Kept.{IsKeptOperator};
-
-    ghost invariant = { λ o. IsKeptOperator o.height (operator_of o.parts.value) };
+    ghost invariant = { λ o. IsKeptOperator o.form };
 
     ghost size = { operator_depth };
 
     ghost use Rattle.j_entity.specs.Deep.{operator_falls};
 
-    ghost size_decreases = { λ a h. operator_falls a.parts.value };
+    ghost size_decreases = { λ a h. operator_falls a.form };
 }
 
 /// What a name may hold and a sentence may give.
@@ -215,22 +251,18 @@ impl Model for Body {
 }
 
 impl Verb {
-    /// The verb of these parts.
+    /// The verb of these parts. A primitive takes no memory.
     pub fn derive(alloc: Global, parts: Parts) -> Result<Verb, Refusal>
         ensures ok { IfOk result (λ v. (v ≡ verb_of parts) × (verb_height (verb_of parts) ≤ 64)) }
         ensures err { IfErr result (IsRefusedBeyond (verb_height (verb_of parts) ≤ 64)) }
+        ensures primitive { IsTrue (is_primitive (verb_of parts)) → IsOk result }
     {
-        let height = parts.height();
-        if height > 64 {
-            return Err(Refusal::Fault(Fault::Limit));
+        match parts {
+            Parts::Primitive(p) => Ok(Verb {
+                form: VerbForm::Primitive(p),
+            }),
+            parts => made_verb(alloc, parts),
         }
-        let ranks = parts.ranks();
-        let parts = shared_verb(alloc, parts)?;
-        Ok(Verb {
-            parts,
-            height,
-            ranks,
-        })
     }
 
     /// 0 for what isn't made of parts, else one more than that of the highest part.
@@ -238,33 +270,79 @@ impl Verb {
         ensures value { result ≡ verb_height self.now }
         ensures fits { result ≤ 64 }
     {
-        self.height
+        match &self.form {
+            VerbForm::Primitive(_) => 0,
+            VerbForm::Made(made) => made.height,
+        }
     }
 
     pub fn ranks(&self) -> Ranks
         ensures { result ≡ verb_ranks self.now }
     {
-        self.ranks
+        match &self.form {
+            VerbForm::Primitive(p) => primitive_ranks(*p),
+            VerbForm::Made(made) => made.ranks,
+        }
     }
 
     /// An equal verb, which shares the parts.
     pub fn duplicate(&self) -> Result<Verb, NoMemory>
-        ensures { IfOk result (λ v. v ≡ self.now) }
+        ensures ok { IfOk result (λ v. v ≡ self.now) }
+        ensures primitive { IsTrue (is_primitive self.now) → IsOk result }
     {
-        match self.parts.clone() {
-            Ok(parts) => Ok(Verb {
-                parts,
-                height: self.height,
-                ranks: self.ranks,
+        match &self.form {
+            VerbForm::Primitive(p) => Ok(Verb {
+                form: VerbForm::Primitive(*p),
             }),
-            Err(_) => Err(NoMemory),
+            VerbForm::Made(made) => match made.clone() {
+                Ok(made) => Ok(Verb {
+                    form: VerbForm::Made(made),
+                }),
+                Err(_) => Err(NoMemory),
+            },
         }
     }
 
-    pub(crate) fn parts(&self) -> &Parts
-        ensures { verb_of result.now ≡ self.now }
+    /// The tree of the verb, one level deep.
+    pub fn tree(&self) -> Tree<'_>
+        ensures { lent_verb result ≡ self.now }
     {
-        &self.parts
+        match &self.form {
+            VerbForm::Primitive(p) => Tree::Primitive(*p),
+            VerbForm::Made(made) => made.parts.lend(),
+        }
+    }
+}
+
+// The verb of parts that are no word.
+fn made_verb(alloc: Global, parts: Parts) -> Result<Verb, Refusal>
+    requires { is_primitive (verb_of parts) ≡ false }
+    ensures ok { IfOk result (λ v. (v ≡ verb_of parts) × (verb_height (verb_of parts) ≤ 64)) }
+    ensures err { IfErr result (IsRefusedBeyond (verb_height (verb_of parts) ≤ 64)) }
+{
+    let height = parts.height();
+    if height > HEIGHT_LIMIT {
+        return Err(Refusal::Fault(Fault::Limit));
+    }
+    let ranks = parts.ranks();
+    Ok(shared_verb(alloc, parts, height, ranks)?)
+}
+
+fn shared_verb(alloc: Global, parts: Parts, height: u8, ranks: Ranks) -> Result<Verb, NoMemory>
+    requires { IsMade height ranks (verb_of parts) }
+    ensures { IfOk result (λ v. v ≡ verb_of parts) }
+{
+    let parts = parts.share(alloc)?;
+    let made = MadeVerb {
+        parts,
+        height,
+        ranks,
+    };
+    match Rc::new(alloc, made) {
+        Ok(made) => Ok(Verb {
+            form: VerbForm::Made(made),
+        }),
+        Err(_) => Err(NoMemory),
     }
 }
 
@@ -301,16 +379,6 @@ impl Parts {
     }
 }
 
-// The parts of a verb, which its copies share.
-fn shared_verb(alloc: Global, parts: Parts) -> Result<Rc<Parts>, NoMemory>
-    ensures { IfOk result (λ p. verb_of p.value ≡ verb_of parts) }
-{
-    match Rc::new(alloc, parts.share(alloc)?) {
-        Ok(parts) => Ok(parts),
-        Err(_) => Err(NoMemory),
-    }
-}
-
 impl OperatorParts {
     // The same parts with a body that can be shared.
     fn share(self, alloc: Global) -> Result<OperatorParts, NoMemory>
@@ -323,28 +391,19 @@ impl OperatorParts {
     }
 }
 
-// The parts of an operator, which its copies share.
-fn shared_operator(alloc: Global, parts: OperatorParts) -> Result<Rc<OperatorParts>, NoMemory>
-    ensures { IfOk result (λ p. operator_of p.value ≡ operator_of parts) }
-{
-    match Rc::new(alloc, parts.share(alloc)?) {
-        Ok(parts) => Ok(parts),
-        Err(_) => Err(NoMemory),
-    }
-}
-
 impl Operator {
-    /// The operator of these parts.
+    /// The operator of these parts. A modifier takes no memory.
     pub fn derive(alloc: Global, parts: OperatorParts) -> Result<Operator, Refusal>
         ensures ok { IfOk result (λ o. (o ≡ operator_of parts) × (operator_height (operator_of parts) ≤ 64)) }
         ensures err { IfErr result (IsRefusedBeyond (operator_height (operator_of parts) ≤ 64)) }
+        ensures modifier { IsTrue (is_modifier (operator_of parts)) → IsOk result }
     {
-        let height = parts.height();
-        if height > 64 {
-            return Err(Refusal::Fault(Fault::Limit));
+        match parts {
+            OperatorParts::Primitive(m) => Ok(Operator {
+                form: OperatorForm::Primitive(m),
+            }),
+            parts => made_operator(alloc, parts),
         }
-        let parts = shared_operator(alloc, parts)?;
-        Ok(Operator { parts, height })
     }
 
     /// 0 for a word or a body, else one more than that of the highest part.
@@ -352,33 +411,72 @@ impl Operator {
         ensures value { result ≡ operator_height self.now }
         ensures fits { result ≤ 64 }
     {
-        self.height
+        match &self.form {
+            OperatorForm::Primitive(_) => 0,
+            OperatorForm::Made(made) => made.height,
+        }
     }
 
     /// An equal operator, which shares the parts.
     pub fn duplicate(&self) -> Result<Operator, NoMemory>
-        ensures { IfOk result (λ o. o ≡ self.now) }
+        ensures ok { IfOk result (λ o. o ≡ self.now) }
+        ensures modifier { IsTrue (is_modifier self.now) → IsOk result }
     {
-        match self.parts.clone() {
-            Ok(parts) => Ok(Operator {
-                parts,
-                height: self.height,
+        match &self.form {
+            OperatorForm::Primitive(m) => Ok(Operator {
+                form: OperatorForm::Primitive(*m),
             }),
-            Err(_) => Err(NoMemory),
+            OperatorForm::Made(made) => match made.clone() {
+                Ok(made) => Ok(Operator {
+                    form: OperatorForm::Made(made),
+                }),
+                Err(_) => Err(NoMemory),
+            },
         }
     }
 
-    pub(crate) fn parts(&self) -> &OperatorParts
-        ensures { operator_of result.now ≡ self.now }
+    /// The tree of the operator, one level deep.
+    pub fn tree(&self) -> OperatorTree<'_>
+        ensures { lent_operator result ≡ self.now }
     {
-        &self.parts
+        match &self.form {
+            OperatorForm::Primitive(m) => OperatorTree::Primitive(*m),
+            OperatorForm::Made(made) => made.parts.lend(),
+        }
+    }
+}
+
+// The operator of parts that are no word.
+fn made_operator(alloc: Global, parts: OperatorParts) -> Result<Operator, Refusal>
+    requires { is_modifier (operator_of parts) ≡ false }
+    ensures ok { IfOk result (λ o. (o ≡ operator_of parts) × (operator_height (operator_of parts) ≤ 64)) }
+    ensures err { IfErr result (IsRefusedBeyond (operator_height (operator_of parts) ≤ 64)) }
+{
+    let height = parts.height();
+    if height > HEIGHT_LIMIT {
+        return Err(Refusal::Fault(Fault::Limit));
+    }
+    Ok(shared_operator(alloc, parts, height)?)
+}
+
+fn shared_operator(alloc: Global, parts: OperatorParts, height: u8) -> Result<Operator, NoMemory>
+    requires { IsMadeOperator height (operator_of parts) }
+    ensures { IfOk result (λ o. o ≡ operator_of parts) }
+{
+    let parts = parts.share(alloc)?;
+    match Rc::new(alloc, MadeOperator { parts, height }) {
+        Ok(made) => Ok(Operator {
+            form: OperatorForm::Made(made),
+        }),
+        Err(_) => Err(NoMemory),
     }
 }
 
 impl Operand {
     /// An equal operand, which shares its parts.
     pub fn duplicate(&self) -> Result<Operand, NoMemory>
-        ensures { IfOk result (λ u. operand_of u ≡ operand_of self.now) }
+        ensures ok { IfOk result (λ u. operand_of u ≡ operand_of self.now) }
+        ensures inline { IsInlineOperand (operand_of self.now) → IsOk result }
     {
         match self {
             Operand::Verb(v) => Ok(Operand::Verb(v.duplicate()?)),
@@ -391,7 +489,8 @@ impl Operand {
 impl Entity {
     /// An equal entity, which shares its parts.
     pub fn duplicate(&self) -> Result<Entity, NoMemory>
-        ensures { IfOk result (λ e. entity_of e ≡ entity_of self.now) }
+        ensures ok { IfOk result (λ e. entity_of e ≡ entity_of self.now) }
+        ensures inline { IsInlineEntity (entity_of self.now) → IsOk result }
     {
         match self {
             Entity::Noun(n) => Ok(Entity::Noun(n.duplicate()?)),

@@ -4,6 +4,7 @@
 mod entity;
 mod heights;
 mod ranks;
+mod rows;
 mod tree;
 
 pub use entity::{
@@ -11,4 +12,8 @@ pub use entity::{
 };
 pub use j_leaves::{Modifier, Move, Name, Place, Primitive, Ranks, Text};
 pub use j_noun::{Rank, RankList, RankPart};
+pub use rows::{height_rows, rank_rows, sentence_rows};
 pub use tree::{OperatorTree, Tree};
+
+#[cfg(test)]
+mod tests;

@@ -26,7 +26,7 @@ fn three(monad: Rank, left: Rank, right: Rank) -> Ranks
     Ranks { monad, left, right }
 }
 
-fn primitive_ranks(p: Primitive) -> Ranks
+pub(crate) fn primitive_ranks(p: Primitive) -> Ranks
     ensures { result ≡ spec.primitive_ranks p }
 {
     let zero = Rank::Number(0);
@@ -129,13 +129,7 @@ fn derived_ranks(m: Modifier, u: Ranks, v: Ranks, said: Ranks, verbs: bool) -> R
         Modifier::Passive => three(Rank::Infinite, u.right, u.left),
         Modifier::Rank => said,
         Modifier::Atop => v,
-        Modifier::Bond => {
-            if verbs {
-                same(v.monad)
-            } else {
-                ENDLESS
-            }
-        }
+        Modifier::Bond => { if verbs { same(v.monad) } else { ENDLESS } }
         Modifier::Under => same(v.monad),
         Modifier::Product => three(Rank::Infinite, one_more(v.left), Rank::Infinite),
         Modifier::Monadic => three(u.monad, v.left, v.right),

@@ -1,6 +1,7 @@
 // The trees of verbs and operators, with their parts lent.
 ghost use Rattle.std.specs.Prelude.{◌≡◌};
 ghost use Rattle.j_entity.specs.Lent.{lent_verb, lent_operator};
+ghost use Rattle.j_entity.specs.View.{verb_of, operator_of};
 
 use crate::entity::{Body, Operand, Operator, OperatorParts, Parts, Verb};
 use j_leaves::{Modifier, Name, Primitive, Ranks};
@@ -29,11 +30,12 @@ pub enum OperatorTree<'a> {
     Explicit(&'a Body),
 }
 
-impl Verb {
-    pub fn tree(&self) -> Tree<'_>
-        ensures { lent_verb result ≡ self.now }
+impl Parts {
+    /// The tree of a verb of these parts.
+    pub(crate) fn lend(&self) -> Tree<'_>
+        ensures { lent_verb result ≡ verb_of self.now }
     {
-        match self.parts() {
+        match self {
             Parts::Primitive(p) => Tree::Primitive(*p),
             Parts::Named(n, r) => Tree::Named(n, *r),
             Parts::Fork(f, g, h) => Tree::Fork(f, g, h),
@@ -48,11 +50,12 @@ impl Verb {
     }
 }
 
-impl Operator {
-    pub fn tree(&self) -> OperatorTree<'_>
-        ensures { lent_operator result ≡ self.now }
+impl OperatorParts {
+    /// The tree of an operator of these parts.
+    pub(crate) fn lend(&self) -> OperatorTree<'_>
+        ensures { lent_operator result ≡ operator_of self.now }
     {
-        match self.parts() {
+        match self {
             OperatorParts::Primitive(m) => OperatorTree::Primitive(*m),
             OperatorParts::Both(a, b) => OperatorTree::Both(a, b),
             OperatorParts::Right(c, u) => OperatorTree::Right(c, u),
