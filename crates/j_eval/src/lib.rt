@@ -9,5 +9,6 @@ mod stack;
 mod words;
 
 pub use j_entity::{Entity, Prepared};
+pub use j_explicit::{LineFault, prepare};
 pub use machine::Machine;
 pub use outcome::{Halt, Outcome};
