@@ -1,15 +1,13 @@
 -- What one line makes of a run.
 use Rattle.std.proofs.Common.{◌≡◌, List, ℕ, ◌++◌, [], ◌∷◌, Option, Some, Result, Ok, Err, IfErr, refl, ap, sym, subst, ◌∙◌}
 use Rattle.std.proofs.lemmas.List.{append-nil}
-use Rattle.j_definitions.specs.Array.{Array}
 use Rattle.j_definitions.specs.declared.Fault.{Fault}
 use Rattle.j_io.specs.Outside.{Grew, GrewByPrefix}
 use Rattle.j_eval.specs.State.{State, Outcome}
-use Rattle.j_eval.specs.Reading.{reading}
+use Rattle.j_explicit.specs.Reading.{reading}
 use Rattle.j_eval.specs.Meaning.{top}
 use Rattle.j_eval.specs.Meets.{Running, Answers, ready}
-use Rattle.j_eval.specs.declared.prepared.Item.{Item}
-use Rattle.j_eval.specs.declared.outcome.Entity.TheVariants as entity
+use Rattle.j_entity.specs.Tree.{EntityTree, WordTree}
 use Rattle.j_eval.specs.declared.outcome.Outcome.{Outcome as Answer}
 use Rattle.j_eval.specs.declared.outcome.Outcome.TheVariants as answer
 use Rattle.j_cli.specs.Report.{report}
@@ -27,25 +25,25 @@ TurnFits answer.Spent m line turn = turn ≡ record { state = record { steps = m
 TurnFits answer.NoMemory m line turn = m.state.shown ≡ []
 
 -- a top sentence begins with nothing shown
-top_opening : (items : List Item) (s : State) → s.budget ≡ budget → top items s ≡ top items (opening s.steps)
+top_opening : (items : List WordTree) (s : State) → s.budget ≡ budget → top items s ≡ top items (opening s.steps)
 top_opening items s e = ap (λ (b : ℕ). top items (record { steps = s.steps; budget = b; shown = [] })) e
 
-turn_given : (line : List ℕ) (items : List Item) (s : State) → reading line ≡ Ok items → (items ≡ [] → ⊥) → s.budget ≡ budget → executed s.steps line (reading line) ≡ turn_of line (top items s)
+turn_given : (line : List ℕ) (items : List WordTree) (s : State) → reading line ≡ Ok items → (items ≡ [] → ⊥) → s.budget ≡ budget → executed s.steps line (reading line) ≡ turn_of line (top items s)
 turn_given line [] s e some b = absurd (some refl)
 turn_given line (i ∷ items) s e some b = ap (executed s.steps line) e ∙ ap (turn_of line) (sym (top_opening (i ∷ items) s b))
 
-next_given : (line : List ℕ) (items : List Item) (m : Running) → reading line ≡ Ok items → (items ≡ [] → ⊥) → m.state.budget ≡ budget → next (run_of m) line ≡ turn_of line (top items m.state)
+next_given : (line : List ℕ) (items : List WordTree) (m : Running) → reading line ≡ Ok items → (items ≡ [] → ⊥) → m.state.budget ≡ budget → next (run_of m) line ≡ turn_of line (top items m.state)
 unfolding next
 next_given line items m e some b = turn_given line items m.state e some b
 
-fits_of : (a : Answer) (m : Running) (line : List ℕ) (o : Outcome Array) → Answers a m o → TurnFits a m line (turn_of line o)
-fits_of (answer.Value (entity.Noun y)) m line o p = (ap (turn_of line) p.0, p.1)
+fits_of : (a : Answer) (m : Running) (line : List ℕ) (o : Outcome EntityTree) → Answers a m o → TurnFits a m line (turn_of line o)
+fits_of (answer.Value e) m line o p = (ap (turn_of line) p.0, p.1)
 fits_of (answer.Failed f) m line o p = ap (turn_of line) p.0
 fits_of answer.Spent m line o p = ap (turn_of line) p.0
 fits_of answer.NoMemory m line o p = p.1
 
 -- a line with words
-pub turn_fits : (a : Answer) (old new : Running) (line : List ℕ) (items : List Item) → reading line ≡ Ok items → (items ≡ [] → ⊥) → old.state.budget ≡ budget → Answers a new (top items old.state)
+pub turn_fits : (a : Answer) (old new : Running) (line : List ℕ) (items : List WordTree) → reading line ≡ Ok items → (items ≡ [] → ⊥) → old.state.budget ≡ budget → Answers a new (top items old.state)
     → TurnFits a new line (next (run_of old) line)
 turn_fits a old new line items e some b p = subst (TurnFits a new line) (sym (next_given line items old e some b)) (fits_of a new line (top items old.state) p)
 

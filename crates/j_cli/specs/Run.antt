@@ -1,12 +1,11 @@
 -- What a run of lines shows.
 use Rattle.std.specs.Prelude.{ℕ, List, [], ◌∷◌, ◌++◌, Result, Ok, Err}
 use Rattle.std.specs.Str.Lines.{lines}
-use Rattle.j_definitions.specs.Array.{Array}
 use Rattle.j_definitions.specs.declared.Fault.{Fault}
 use Rattle.j_eval.specs.State.{State, Outcome, Gave, Erred, Spent}
-use Rattle.j_eval.specs.Reading.{reading}
+use Rattle.j_explicit.specs.Reading.{reading}
 use Rattle.j_eval.specs.Meaning.{top}
-use Rattle.j_eval.specs.declared.prepared.Item.{Item}
+use Rattle.j_entity.specs.Tree.{EntityTree, WordTree}
 use Rattle.j_cli.specs.Report.{report}
 
 -- the run goes on, an error has stopped it, or its steps are spent
@@ -34,16 +33,16 @@ abbrev pub opening : ℕ → State
 opening steps = record { steps = steps; budget = budget; shown = [] }
 
 -- what was shown, and then the report of an error
-abbrev pub turn_of : List ℕ → Outcome Array → Turn
-turn_of line (Gave y s) = record { state = record { steps = s.steps; end = going }; piece = s.shown }
+abbrev pub turn_of : List ℕ → Outcome EntityTree → Turn
+turn_of line (Gave e s) = record { state = record { steps = s.steps; end = going }; piece = s.shown }
 turn_of line (Erred f s) = record { state = record { steps = s.steps; end = stopped }; piece = s.shown ++ report f line }
 turn_of line (Spent s) = record { state = record { steps = s.steps; end = spent }; piece = s.shown }
 
 -- a line in a run that goes on; one without words does nothing
-abbrev pub executed : ℕ → List ℕ → Result (List Item) Fault → Turn
+abbrev pub executed : ℕ → List ℕ → Result (List WordTree) Fault → Turn
 executed steps line (Err f) = record { state = record { steps = steps; end = stopped }; piece = report f line }
 executed steps line (Ok []) = record { state = record { steps = steps; end = going }; piece = [] }
-executed steps line (Ok (i ∷ items)) = turn_of line (top (i ∷ items) (opening steps))
+executed steps line (Ok (w ∷ words)) = turn_of line (top (w ∷ words) (opening steps))
 
 abbrev pub turn_at : End → ℕ → List ℕ → Turn
 turn_at going steps line = executed steps line (reading line)

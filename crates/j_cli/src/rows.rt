@@ -28,6 +28,13 @@ pub fn worked_rows()
     ensures left_out { run_on (codes "%: 4" ++ 10 ∷ []) ≡ record { bytes = codes "|nonce error" ++ 10 ∷ codes "|   %: 4" ++ 10 ∷ []; status = 3 } }
     ensures open_quote { run_on (codes "'abc" ++ 10 ∷ []) ≡ record { bytes = codes "|open quote" ++ 10 ∷ codes "|   'abc" ++ 10 ∷ []; status = 3 } }
     ensures verb_last { run_on (codes "1 2 +" ++ 10 ∷ []) ≡ record { bytes = codes "|syntax error" ++ 10 ∷ codes "|   1 2 +" ++ 10 ∷ []; status = 3 } }
+    ensures fork_and_hook { run_on (codes "5 (+ - *) 3" ++ 10 ∷ codes "(+ *) 3" ++ 10 ∷ [])
+        ≡ record { bytes = codes "_7" ++ 10 ∷ codes "4" ++ 10 ∷ []; status = 0 } }
+    ensures adverb_of_at { run_on (codes "- (@: *) 5" ++ 10 ∷ []) ≡ record { bytes = codes "_1" ++ 10 ∷ []; status = 0 } }
+    ensures verb_shown { run_on (codes "+ -" ++ 10 ∷ codes "1 2 +" ++ 10 ∷ [])
+        ≡ record { bytes = codes "verb" ++ 10 ∷ codes "|syntax error" ++ 10 ∷ codes "|   1 2 +" ++ 10 ∷ []; status = 3 } }
+    ensures nearest_table_row { run_on (codes "2 ([ - +) 3 =: 4" ++ 10 ∷ [])
+        ≡ record { bytes = codes "|domain error" ++ 10 ∷ codes "|   2 ([ - +) 3 =: 4" ++ 10 ∷ []; status = 3 } }
     ensures last_carriage_return { run_on (codes "1" ++ 13 ∷ [])
         ≡ record { bytes = codes "|spelling error" ++ 10 ∷ codes "|   1" ++ 13 ∷ 10 ∷ []; status = 3 } }
 {}

@@ -2,7 +2,7 @@ use Rattle.std.proofs.Common.{rules, ◌≡◌, [], ◌∷◌, ◌∙◌, Ok, So
 use Rattle.std.proofs.lemmas.List.{nil_from_length}
 use Rattle.std.proofs.lemmas.Result.{err_from_is_err_and}
 use Rattle.j_io.specs.Outside.{Grew}
-use Rattle.j_eval.specs.Reading.{reading}
+use Rattle.j_explicit.specs.Reading.{reading}
 use Rattle.j_eval.specs.declared.outcome.Outcome.TheVariants as answer
 use Rattle.j_cli.specs.Halts.{run_of}
 use Rattle.j_cli.proofs.Known.{grew_nothing}
