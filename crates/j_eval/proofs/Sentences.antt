@@ -3,7 +3,6 @@ use Rattle.std.proofs.Common.{◌≡◌, ℕ, zero, suc, ◌+◌, ◌-◌, ◌*�
 use Rattle.std.proofs.lemmas.List.{reverse-append, nil_from_length, map-append}
 use Rattle.j_entity.specs.Tree.{EntityTree, WordTree}
 use Rattle.j_entity.specs.View.{entity_of, word_of}
-use Rattle.j_entity.specs.declared.entity.Entity.{Entity}
 use Rattle.j_entity.specs.declared.entity.Item.{Item}
 use Rattle.j_eval.specs.declared.outcome.Halt.{Halt}
 use Rattle.j_eval.specs.declared.outcome.Halt.TheVariants as halt

@@ -1,5 +1,5 @@
 -- What a verb does with one noun or two.
-use Rattle.std.specs.Prelude.{ℕ, ℤ, zero, suc, Bool, true, false, List, [], ◌∷◌, Option, Some, None, Result, Ok, Err, if◌then◌else◌}
+use Rattle.std.specs.Prelude.{ℕ, ℤ, zero, suc, Bool, true, false, Option, Some, None, Result, Ok, Err, if◌then◌else◌}
 use Rattle.j_definitions.specs.Array.{Array, number, atom_array}
 use Rattle.j_definitions.specs.Scalars.{scalar_monad, scalar_dyad, monad_of, dyad_of}
 use Rattle.j_definitions.specs.declared.Fault.{Fault}
@@ -12,9 +12,9 @@ use Rattle.j_leaves.specs.declared.primitive.Primitive.TheVariants as p
 use Rattle.j_leaves.specs.declared.modifier.Modifier.{Modifier}
 use Rattle.j_leaves.specs.declared.modifier.Modifier.TheVariants as m
 use Rattle.j_leaves.specs.Spelling.{constant}
-use Rattle.j_entity.specs.Tree.{VerbTree, OperandTree, primitive, named, fork, noun_fork, hook, derived, derived2, explicit, explicit1, explicit2, verb, noun, rank_list}
+use Rattle.j_entity.specs.Tree.{VerbTree, primitive, named, fork, noun_fork, hook, derived, derived2, explicit, explicit1, explicit2, verb, noun, rank_list}
 use Rattle.j_entity.specs.Heights.{verb_height}
-use Rattle.j_eval.specs.State.{Run, ◌>>=◌, pure, fail, or_fault}
+use Rattle.j_eval.specs.State.{Run, ◌>>=◌, fail, or_fault}
 
 -- the left argument, if there is one, and the right one
 abbrev pub Doing : Type 0

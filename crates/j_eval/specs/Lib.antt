@@ -5,3 +5,4 @@ pub mod Applying
 pub mod Meaning
 pub mod Meets
 pub mod Machine
+pub mod Rows

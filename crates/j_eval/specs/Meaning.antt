@@ -1,18 +1,17 @@
 -- What a sentence does.
-use Rattle.std.specs.Prelude.{ℕ, zero, suc, ◌+◌, ◌*◌, nat_le, ◌&&◌, Bool, true, false, List, [], ◌∷◌, ◌++◌, length, map, reverse, Option, Some, None, Result, Ok, Err, if◌then◌else◌}
-use Rattle.j_definitions.specs.Array.{Array}
+use Rattle.std.specs.Prelude.{ℕ, zero, suc, ◌+◌, ◌*◌, nat_le, ◌&&◌, Bool, true, false, List, [], ◌∷◌, ◌++◌, length, map, reverse, Option, Some, None, Result, Err, if◌then◌else◌}
 use Rattle.j_definitions.specs.declared.Fault.{Fault}
 use Rattle.j_definitions.specs.declared.Fault.TheVariants.{Syntax, Limit, Domain, Nonce}
 use Rattle.j_display.specs.Display.{rows}
 use Rattle.j_noun.specs.declared.ranks.RankPart.{RankPart}
-use Rattle.j_entity.specs.Tree.{EntityTree, WordTree, a_noun, a_verb, an_adverb, a_conjunction, right, rank_list, entity, ranks_word, name, local_copula, global_copula, open_mark, close_mark}
+use Rattle.j_entity.specs.Tree.{EntityTree, WordTree, a_noun, a_verb, an_adverb, a_conjunction, right, rank_list, entity, ranks_word}
 use Rattle.j_trains.specs.Form.{fork_of, bident_of, adverb_of, conjunction_of, formed_adverb}
 use Rattle.j_eval.specs.declared.stack.Row.{Row}
 use Rattle.j_eval.specs.declared.stack.Row.TheVariants as row
 use Rattle.j_eval.specs.Applying.{Calls, call, nested}
 use Rattle.j_eval.specs.Stack.{popped, popped_word, popped_noun, popped_verb, popped_operand, popped_adverb, popped_conjunction}
 use Rattle.j_eval.specs.State.{Gave, Erred, Run, ◌>>=◌, pure, fail, counted, or_fault, Unit0}
-use Rattle.j_eval.specs.Table.{Slot, Start, Word, row_of, is_start, is_name, is_entity, kind_of}
+use Rattle.j_eval.specs.Table.{Slot, Start, Word, row_of, is_start, is_name, kind_of}
 
 -- a conjunction and a rank list right of it
 abbrev pub ranked : EntityTree → List RankPart → Result EntityTree Fault

@@ -3,7 +3,7 @@ use Rattle.std.specs.Prelude.{List, [], ◌∷◌, map, reverse, Result, Ok, Err
 use Rattle.j_definitions.specs.Array.{Array}
 use Rattle.j_definitions.specs.declared.Fault.{Fault}
 use Rattle.j_definitions.specs.declared.Fault.TheVariants.{Syntax}
-use Rattle.j_entity.specs.Tree.{VerbTree, OperandTree, OperatorTree, EntityTree, WordTree, verb, noun, rank_list, a_noun, a_verb, an_adverb, a_conjunction, entity, ranks_word}
+use Rattle.j_entity.specs.Tree.{VerbTree, OperandTree, OperatorTree, WordTree, verb, noun, rank_list, a_noun, a_verb, an_adverb, a_conjunction, entity, ranks_word}
 use Rattle.j_entity.specs.View.{word_of}
 use Rattle.j_eval.specs.declared.stack.Entry.{Entry}
 use Rattle.j_eval.specs.declared.stack.Entry.TheVariants as entry

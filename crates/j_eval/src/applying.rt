@@ -40,7 +40,13 @@ fn levels_below(room: u32, v: &Verb) -> Option<u32>
 impl Machine {
     /// A call of a verb where `room` levels are left.
     #[tactic(auto, using(crate::proofs::Runs::stack_call))]
-    pub(crate) fn call(&mut self, room: u32, v: &Verb, x: Option<&Noun>, y: &Noun) -> Result<Noun, Halt>
+    pub(crate) fn call(
+        &mut self,
+        room: u32,
+        v: &Verb,
+        x: Option<&Noun>,
+        y: &Noun,
+    ) -> Result<Noun, Halt>
         ensures gives { Meets result self.new (call (nested room) v.now (option_copied x.entry) y.now self.old.state) }
         ensures unspent { IsErrOf result Halt.Spent → ⊥ }
         ensures same { self.new ≡ self.old }

@@ -4,6 +4,7 @@
 mod applying;
 mod machine;
 mod outcome;
+mod rows;
 mod sentence;
 mod stack;
 mod words;
@@ -12,3 +13,4 @@ pub use j_entity::{Entity, Prepared};
 pub use j_explicit::{LineFault, prepare};
 pub use machine::Machine;
 pub use outcome::{Halt, Outcome};
+pub use rows::{table_rows, worked_rows};

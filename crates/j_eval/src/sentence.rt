@@ -81,12 +81,8 @@ fn bident(alloc: Global, b: Item, c: Item) -> Result<Entity, Refusal>
 {
     match b {
         Item::Entity(b) => entity_bident(alloc, b, c),
-        Item::Ranks(_)
-        | Item::Name(_)
-        | Item::Local
-        | Item::Global
-        | Item::Open
-        | Item::Close => Err(Refusal::Fault(Fault::Syntax)),
+        Item::Ranks(_) | Item::Name(_) | Item::Local | Item::Global | Item::Open | Item::Close =>
+            Err(Refusal::Fault(Fault::Syntax)),
     }
 }
 

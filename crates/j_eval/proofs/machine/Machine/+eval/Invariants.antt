@@ -1,4 +1,4 @@
-use Rattle.std.proofs.Common.{ℕ, ◌+◌, ◌*◌, max}
+use Rattle.std.proofs.Common.{◌+◌, ◌*◌, max}
 use Rattle.j_entity.specs.Heights.{verb_height, operand_height}
 use Rattle.j_entity.specs.View.{operand_of}
 use Rattle.j_eval.proofs.machine.Machine.+eval.Given as goal

@@ -1,4 +1,4 @@
-use Rattle.std.proofs.Common.{rules, arith, sym, ◌∙◌, ◌≡◌, ◌+◌, ◌-◌, length, map, subst, false, true, Some, None, ap, refl}
+use Rattle.std.proofs.Common.{rules, arith, sym, ◌∙◌, ◌≡◌, ◌+◌, ◌-◌, length, map, subst, false, true, Some, None, ap}
 use Rattle.std.proofs.lemmas.List.{length-reverse, length-map}
 use Rattle.j_entity.specs.View.{entity_of, word_of}
 use Rattle.j_eval.specs.Applying.{nested}

@@ -1,0 +1,48 @@
+-- Names for the sentences worked out by hand.
+use Rattle.std.specs.Prelude.{ℕ, ℤ, List, [], ◌∷◌, length, map}
+use Rattle.j_definitions.specs.Array.{Array, number, atom_array}
+use Rattle.j_definitions.specs.declared.Kind.TheVariants.{Number}
+use Rattle.j_leaves.specs.declared.primitive.Primitive.{Primitive}
+use Rattle.j_leaves.specs.declared.primitive.Primitive.TheVariants as p
+use Rattle.j_leaves.specs.declared.modifier.Modifier.TheVariants as m
+use Rattle.j_entity.specs.Tree.{EntityTree, WordTree, primitive, modifier, a_noun, a_verb, a_conjunction, entity}
+use Rattle.j_eval.specs.State.{State, Outcome, Gave}
+use Rattle.j_eval.specs.Meaning.{top}
+
+-- one number, and a list of numbers
+abbrev pub atom : ℤ → Array
+atom n = atom_array Number (number n)
+
+abbrev pub list : List ℤ → Array
+list ns = record { kind = Number; shape = length ns ∷ []; atoms = map number ns }
+
+-- words of sentences
+abbrev pub noun : Array → WordTree
+noun y = entity (a_noun y)
+
+abbrev pub verb : Primitive → WordTree
+verb v = entity (a_verb (primitive v))
+
+abbrev pub plus : WordTree
+plus = verb p.Plus
+
+abbrev pub minus : WordTree
+minus = verb p.Minus
+
+abbrev pub times : WordTree
+times = verb p.Times
+
+abbrev pub at : WordTree
+at = entity (a_conjunction (modifier m.At))
+
+-- so many steps counted of a hundred, and bytes shown
+abbrev pub after : ℕ → List ℕ → State
+after steps shown = record { steps = steps; budget = 100; shown = shown }
+
+-- a top sentence, before which no step was counted
+abbrev pub top_of : List WordTree → Outcome EntityTree
+top_of words = top words (after 0 [])
+
+-- a value, after so many steps, and what it shows
+abbrev pub gave : EntityTree → ℕ → List ℕ → Outcome EntityTree
+gave e steps shown = Gave e (after steps shown)
