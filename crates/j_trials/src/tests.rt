@@ -11,19 +11,19 @@ use std::test::Fail;
 
 // A text that is run over memory, what it writes and its status.
 #[derive(Clone, Copy)]
-struct Case<'a> {
-    about: &'a str,
-    words: &'a [&'a str],
-    text: &'a [u8],
-    most_read: usize,
-    most_written: usize,
-    source_fails: &'a [u64],
-    sink_fails: &'a [u64],
-    written: &'a [u8],
-    status: u8,
+pub(crate) struct Case<'a> {
+    pub about: &'a str,
+    pub words: &'a [&'a str],
+    pub text: &'a [u8],
+    pub most_read: usize,
+    pub most_written: usize,
+    pub source_fails: &'a [u64],
+    pub sink_fails: &'a [u64],
+    pub written: &'a [u8],
+    pub status: u8,
 }
 
-const PLAIN: Case = Case {
+pub(crate) const PLAIN: Case = Case {
     about: "",
     words: &["jrun"],
     text: b"",
@@ -35,7 +35,7 @@ const PLAIN: Case = Case {
     status: 0,
 };
 
-fn run_case(rt: &impl Abort, alloc: Global, case: &Case) -> Result<(), Fail> {
+pub(crate) fn run_case(rt: &impl Abort, alloc: Global, case: &Case) -> Result<(), Fail> {
     let mut words = Vec::new(alloc);
     for word in case.words {
         words.push(String::from_str(alloc, *word)?)?;
@@ -80,10 +80,16 @@ fn shown_for(byte: u8) -> [&'static [u8]; 3] {
             b"|ill-formed number",
             b"|spelling error",
         ],
-        b'+' | b'-' | b'*' => [b"|syntax error", b"|syntax error", b"|nonce error"],
+        b'+' | b'-' | b'*' | b'[' | b']' => [b"verb\n", b"verb\n", b"|nonce error"],
+        b'(' | b')' => [b"|syntax error", b"|syntax error", b"|nonce error"],
         33..=126 => [b"|nonce error", b"|nonce error", b"|nonce error"],
         _ => [b"|spelling error", b"|spelling error", b"|spelling error"],
     }
+}
+
+// A text whose first line is a report has an error.
+fn status_of(begins: &[u8]) -> u8 {
+    if begins.starts_with(b"|") { 3 } else { 0 }
 }
 
 #[test]
@@ -94,19 +100,13 @@ fn every_byte(rt: HostRuntime) -> Result<(), Fail> {
         if byte.is_ascii_digit() {
             continue;
         }
-        run_long(
-            &rt,
-            alloc,
-            vec![in alloc; byte]?,
-            alone,
-            if alone.is_empty() { 0 } else { 3 },
-        )?;
+        run_long(&rt, alloc, vec![in alloc; byte]?, alone, status_of(alone))?;
         run_long(
             &rt,
             alloc,
             vec![in alloc; byte, byte]?,
             doubled,
-            if doubled.is_empty() { 0 } else { 3 },
+            status_of(doubled),
         )?;
         run_long(&rt, alloc, vec![in alloc; b'a', byte]?, after_letter, 3)?;
     }
@@ -266,7 +266,7 @@ fn faults_of_the_outside(rt: HostRuntime) -> Result<(), Fail> {
 }
 
 // Runs a long text, and tells how what it writes begins.
-fn run_long(
+pub(crate) fn run_long(
     rt: &impl Abort,
     alloc: Global,
     text: Vec<u8>,
@@ -289,7 +289,7 @@ fn run_long(
 }
 
 // So many times a text.
-fn repeated(alloc: Global, text: &[u8], count: usize) -> Result<Vec<u8>, Fail> {
+pub(crate) fn repeated(alloc: Global, text: &[u8], count: usize) -> Result<Vec<u8>, Fail> {
     let mut all = Vec::new(alloc);
     for _ in 0..count {
         all.extend_from_slice(text)?;
