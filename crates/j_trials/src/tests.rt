@@ -11,19 +11,19 @@ use std::test::Fail;
 
 // A text that is run over memory, what it writes and its status.
 #[derive(Clone, Copy)]
-pub(crate) struct Case<'a> {
-    pub about: &'a str,
-    pub words: &'a [&'a str],
-    pub text: &'a [u8],
-    pub most_read: usize,
-    pub most_written: usize,
-    pub source_fails: &'a [u64],
-    pub sink_fails: &'a [u64],
-    pub written: &'a [u8],
-    pub status: u8,
+struct Case<'a> {
+    about: &'a str,
+    words: &'a [&'a str],
+    text: &'a [u8],
+    most_read: usize,
+    most_written: usize,
+    source_fails: &'a [u64],
+    sink_fails: &'a [u64],
+    written: &'a [u8],
+    status: u8,
 }
 
-pub(crate) const PLAIN: Case = Case {
+const PLAIN: Case = Case {
     about: "",
     words: &["jrun"],
     text: b"",
@@ -35,7 +35,7 @@ pub(crate) const PLAIN: Case = Case {
     status: 0,
 };
 
-pub(crate) fn run_case(rt: &impl Abort, alloc: Global, case: &Case) -> Result<(), Fail> {
+fn run_case(rt: &impl Abort, alloc: Global, case: &Case) -> Result<(), Fail> {
     let mut words = Vec::new(alloc);
     for word in case.words {
         words.push(String::from_str(alloc, *word)?)?;

@@ -1,9 +1,11 @@
 // Trains, operators and parentheses: sentences with what they show, worked out by hand.
 ghost use Rattle.std.specs.Prelude.{◌≡◌, ◌≤◌, ◌<◌};
 
-use crate::tests::{Case, PLAIN, repeated, run_case, run_long};
+use crate::run_in_memory;
+use crate::tests::{repeated, run_long};
 use j_entity::{Item, Operand, Operator, OperatorTree, Parts, Verb};
 use j_eval::{Entity, Halt, Machine, Outcome, Prepared, prepare};
+use j_io::MemorySink;
 use j_leaves::Primitive;
 use j_noun::{Fault, Noun, Refusal};
 use j_trains::{adverb, bident, conjunction, fork};
@@ -11,18 +13,33 @@ use std::alloc::Global;
 use std::process::Abort;
 use std::test::Fail;
 
+// A sentence alone writes this, with that status.
+fn check(
+    rt: &impl Abort,
+    alloc: Global,
+    sentence: &str,
+    written: &str,
+    status: u8,
+) -> Result<(), Fail> {
+    let words = Vec::new(alloc);
+    let mut texts = Vec::new(alloc);
+    texts.push((
+        String::from_str(alloc, "-")?,
+        sentence.as_bytes().to_vec(alloc)?,
+    ))?;
+    let room = Vec::with_capacity(alloc, 1000)?;
+    let mut sink = MemorySink::new(room, 4096, Vec::new(alloc));
+    let answered = run_in_memory(alloc, &words, texts, &mut sink);
+    assert_eq!(rt; answered, status, "the status of {sentence}");
+    assert_eq!(rt; sink.bytes(), written.as_bytes(), "the bytes of {sentence}");
+    Ok(())
+}
+
 // Each sentence shows the row beside it.
 fn show(rt: &impl Abort, alloc: Global, rows: &[(&str, &str)]) -> Result<(), Fail> {
     for (sentence, row) in rows {
-        let text = format!(in alloc; "{sentence}\n")?;
         let written = format!(in alloc; "{row}\n")?;
-        let case = Case {
-            about: *sentence,
-            text: text.as_bytes(),
-            written: written.as_bytes(),
-            ..PLAIN
-        };
-        run_case(rt, alloc, &case)?;
+        check(rt, alloc, *sentence, &written, 0)?;
     }
     Ok(())
 }
@@ -30,16 +47,8 @@ fn show(rt: &impl Abort, alloc: Global, rows: &[(&str, &str)]) -> Result<(), Fai
 // Each sentence has the error beside it.
 fn fail(rt: &impl Abort, alloc: Global, rows: &[(&str, &str)]) -> Result<(), Fail> {
     for (sentence, fault) in rows {
-        let text = format!(in alloc; "{sentence}\n")?;
         let written = format!(in alloc; "|{fault} error\n|   {sentence}\n")?;
-        let case = Case {
-            about: *sentence,
-            text: text.as_bytes(),
-            written: written.as_bytes(),
-            status: 3,
-            ..PLAIN
-        };
-        run_case(rt, alloc, &case)?;
+        check(rt, alloc, *sentence, &written, 3)?;
     }
     Ok(())
 }
@@ -411,6 +420,7 @@ fn steps(rt: HostRuntime) -> Result<(), Fail> {
         ("+ =: 4", 1, false),
     ];
     for (sentence, steps, shows) in &rows {
+        assert!(rt; *steps > 0);
         let expected = (false, *steps, *shows);
         assert_eq!(rt;
             counted(&rt, alloc, *sentence, *steps)?,
