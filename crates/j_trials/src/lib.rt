@@ -39,3 +39,5 @@ pub fn run_in_memory(
 mod lines;
 #[cfg(test)]
 mod tests;
+#[cfg(test)]
+mod trains;

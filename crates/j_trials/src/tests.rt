@@ -80,10 +80,16 @@ fn shown_for(byte: u8) -> [&'static [u8]; 3] {
             b"|ill-formed number",
             b"|spelling error",
         ],
-        b'+' | b'-' | b'*' => [b"|syntax error", b"|syntax error", b"|nonce error"],
+        b'+' | b'-' | b'*' | b'[' | b']' => [b"verb\n", b"verb\n", b"|nonce error"],
+        b'(' | b')' => [b"|syntax error", b"|syntax error", b"|nonce error"],
         33..=126 => [b"|nonce error", b"|nonce error", b"|nonce error"],
         _ => [b"|spelling error", b"|spelling error", b"|spelling error"],
     }
+}
+
+// A text whose first line is a report has an error.
+fn status_of(begins: &[u8]) -> u8 {
+    if begins.starts_with(b"|") { 3 } else { 0 }
 }
 
 #[test]
@@ -94,19 +100,13 @@ fn every_byte(rt: HostRuntime) -> Result<(), Fail> {
         if byte.is_ascii_digit() {
             continue;
         }
-        run_long(
-            &rt,
-            alloc,
-            vec![in alloc; byte]?,
-            alone,
-            if alone.is_empty() { 0 } else { 3 },
-        )?;
+        run_long(&rt, alloc, vec![in alloc; byte]?, alone, status_of(alone))?;
         run_long(
             &rt,
             alloc,
             vec![in alloc; byte, byte]?,
             doubled,
-            if doubled.is_empty() { 0 } else { 3 },
+            status_of(doubled),
         )?;
         run_long(&rt, alloc, vec![in alloc; b'a', byte]?, after_letter, 3)?;
     }
@@ -266,7 +266,7 @@ fn faults_of_the_outside(rt: HostRuntime) -> Result<(), Fail> {
 }
 
 // Runs a long text, and tells how what it writes begins.
-fn run_long(
+pub(crate) fn run_long(
     rt: &impl Abort,
     alloc: Global,
     text: Vec<u8>,
@@ -289,7 +289,7 @@ fn run_long(
 }
 
 // So many times a text.
-fn repeated(alloc: Global, text: &[u8], count: usize) -> Result<Vec<u8>, Fail> {
+pub(crate) fn repeated(alloc: Global, text: &[u8], count: usize) -> Result<Vec<u8>, Fail> {
     let mut all = Vec::new(alloc);
     for _ in 0..count {
         all.extend_from_slice(text)?;
