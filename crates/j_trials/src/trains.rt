@@ -1,6 +1,4 @@
 // Trains, operators and parentheses: sentences with what they show, worked out by hand.
-ghost use Rattle.std.specs.Prelude.{◌≡◌, ◌≤◌, ◌<◌};
-
 use crate::run_in_memory;
 use crate::tests::{repeated, run_long};
 use j_entity::{Item, Operand, Operator, OperatorTree, Parts, Verb};

@@ -1,4 +1,4 @@
-use Rattle.std.proofs.Common.{◌≡◌, ℕ, List, subst, Option}
+use Rattle.std.proofs.Common.{ℕ, List, subst, Option}
 use Rattle.std.specs.Prelude.{IfSome, Some}
 use Rattle.j_io.specs.Outside.{Grew}
 use Rattle.j_cli.specs.Answer.{answer, words_of, IsAnswer}
