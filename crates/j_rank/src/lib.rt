@@ -1,0 +1,8 @@
+//! Cells of nouns, the agreement of frames, and the assembly of results.
+#![tactic(auto)]
+
+mod cells;
+mod plan;
+mod sizes;
+
+pub use plan::{Plan, plan_dyad, plan_monad};
