@@ -1,9 +1,10 @@
 -- Products of axes.
-use Rattle.std.proofs.Common.{◌≡◌, ◌<◌, ◌≤◌, ◌+◌, ◌*◌, ℕ, List, [], ◌∷◌, ◌++◌, length, take, drop, replicate, arith, refl, sym, ap, ◌∙◌, subst, Bool, true, false, ◌||◌, nat_eq, get_or, mul_assoc, ◌⊎◌, inl, inr}
+use Rattle.std.proofs.Common.{◌≡◌, ◌<◌, ◌≤◌, ◌+◌, ◌*◌, ◌/◌, ℕ, List, [], ◌∷◌, ◌++◌, length, take, drop, replicate, arith, refl, sym, ap, ◌∙◌, subst, Bool, true, false, ◌||◌, nat_eq, get_or, mul_assoc, ◌⊎◌, inl, inr}
 use Prim.Native.Nat.{zero, suc}
 use Rattle.std.specs.List.{list_any}
 use Rattle.std.proofs.lemmas.Bool.{eqb-true}
 use Rattle.std.proofs.lemmas.List.{drop_more, drop_all, take-append-drop}
+use Rattle.std.proofs.lemmas.Nat.{div_below}
 use Rattle.std.proofs.Math.Nat.{mul-le-mul_left}
 use Rattle.j_definitions.specs.Array.{product}
 
@@ -70,6 +71,20 @@ factor_within : (p q n limit : ℕ) → p * q ≡ n → 0 < n → n ≤ limit �
 factor_within zero q n limit e some h = absurd (omega arith)
 factor_within (suc p) q n limit e some h = omega arith
 
+factor_some : (p q n : ℕ) → p * q ≡ n → 0 < n → 0 < q
+factor_some p zero n e some = absurd (omega arith)
+factor_some p (suc q) n e some = omega arith
+
 -- the rest of the axes of a product within a limit
 pub rest_within : (s : List ℕ) (n limit : ℕ) → 0 < product s → product s ≤ limit → product (drop n s) ≤ limit
 rest_within s n limit some h = factor_within (product (take n s)) (product (drop n s)) (product s) limit (product_parts s n) some h
+
+pub rest_some : (s : List ℕ) (n : ℕ) → 0 < product s → 0 < product (drop n s)
+rest_some s n some = factor_some (product (take n s)) (product (drop n s)) (product s) (product_parts s n) some
+
+-- pair k has a cell of that number
+pub place_of : (f s : List ℕ) (n k times : ℕ) → k < product f → times ≡ product (drop n f) → take n s ≡ take n f → k / times < product (take n s)
+place_of f s n k times h e same =
+    let some = rest_some f n (omega arith) in
+    let within : k < product (take n s) * times = omega (arith, h, product_parts f n, ap (λ p. product (take n f) * p) e, ap (λ t. product t * times) same) in
+    div_below k times (product (take n s)) (omega arith) (omega arith)

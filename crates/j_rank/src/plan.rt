@@ -1,14 +1,14 @@
 // Plans: which cells of a verb's arguments meet.
 ghost use Rattle.std.specs.Prelude.{◌≡◌, ◌<◌, ◌≤◌, ◌/◌, [], length, take, drop, IfOk, IfErr, IsOk};
-ghost use Rattle.j_definitions.specs.Array.{product, IsWithin};
-ghost use Rattle.j_noun.specs.Refused.{IsRefusedBeyond};
-ghost use Rattle.j_rank.specs.Cells.{cell, cell_of_fills};
+ghost use Rattle.j_definitions.specs.Array.{product};
+ghost use Rattle.j_rank.specs.Cells.{cell, cell_of_fills, IsMade};
 ghost use Rattle.j_rank.specs.Plans.{dyad_plan, monad_plan, plan_of, planned, HasCells, Repeats};
 
-use crate::cells::{frame_axes, frame_of};
+use crate::cells::{cell_of, fills_of, frame_of};
 use crate::sizes::{shape_of, size_within};
 use j_definitions::Fault;
-use j_noun::{Noun, Rank, Shape};
+use j_noun::{NoMemory, Noun, Rank, Refusal, Shape};
+use std::alloc::Global;
 use std::marker::Model;
 
 /// Which cells meet, in the order of the frame. A monad's plan has one left cell.
@@ -107,5 +107,41 @@ impl Plan {
         ensures limit { result ≤ 4194304 }
     {
         self.count
+    }
+
+    /// The left cell of pair k.
+    pub fn left(&self, alloc: Global, x: &Noun, k: usize) -> Result<Noun, NoMemory>
+        requires place { k < product self.now.agreed.frame }
+        requires shape { HasCells self.now.left self.now.agreed.frame x.now.shape }
+        ensures ok { IfOk result (λ a. a ≡ cell self.now.left x.now (k / self.now.agreed.left)) }
+        ensures atom { drop self.now.left x.now.shape ≡ [] → IsOk result }
+    {
+        cell_of(alloc, x, self.left.axes, k / self.left.times)
+    }
+
+    /// The right cell of pair k, or cell k of a monad.
+    pub fn right(&self, alloc: Global, y: &Noun, k: usize) -> Result<Noun, NoMemory>
+        requires place { k < product self.now.agreed.frame }
+        requires shape { HasCells self.now.right self.now.agreed.frame y.now.shape }
+        ensures ok { IfOk result (λ a. a ≡ cell self.now.right y.now (k / self.now.agreed.right)) }
+        ensures atom { drop self.now.right y.now.shape ≡ [] → IsOk result }
+    {
+        cell_of(alloc, y, self.right.axes, k / self.right.times)
+    }
+
+    /// A left cell of fills.
+    pub fn fill_left(&self, alloc: Global, x: &Noun) -> Result<Noun, Refusal>
+        requires { self.now.left ≤ length x.now.shape }
+        ensures { IsMade (cell_of_fills self.now.left x.now) result }
+    {
+        fills_of(alloc, x, self.left.axes)
+    }
+
+    /// A right cell of fills.
+    pub fn fill_right(&self, alloc: Global, y: &Noun) -> Result<Noun, Refusal>
+        requires { self.now.right ≤ length y.now.shape }
+        ensures { IsMade (cell_of_fills self.now.right y.now) result }
+    {
+        fills_of(alloc, y, self.right.axes)
     }
 }
