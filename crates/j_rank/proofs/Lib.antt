@@ -1,3 +1,5 @@
 pub mod Products
 pub mod Parts
 pub mod Made
+pub mod Widest
+pub mod Paddings

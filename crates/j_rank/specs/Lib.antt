@@ -1,2 +1,4 @@
 pub mod Cells
 pub mod Plans
+pub mod Assembly
+pub mod Collected

@@ -57,7 +57,7 @@ fn noun_of(alloc: Global, axes: &[usize], numbers: &[i64]) -> Result<Noun, Refus
 }
 
 /// The atoms of cell k, where each cell has that many.
-fn run_of(numbers: &[i64], k: usize, size: usize) -> &[i64]
+pub fn run_of(numbers: &[i64], k: usize, size: usize) -> &[i64]
     requires { (k + 1) * size ≤ length numbers.now }
     ensures { result.now ≡ take size (drop (k * size) numbers.now) }
 {
