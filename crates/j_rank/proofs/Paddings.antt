@@ -1,12 +1,12 @@
 -- Atoms that are padded.
-use Rattle.std.proofs.Common.{◌≡◌, ◌<◌, ◌≤◌, ◌+◌, ◌-◌, ◌*◌, ℕ, List, [], ◌∷◌, ◌++◌, length, take, drop, replicate, get_or, arith, refl, sym, ap, ◌∙◌, zero-mul}
+use Rattle.std.proofs.Common.{◌≡◌, ◌<◌, ◌≤◌, ◌+◌, ◌-◌, ◌*◌, ◌/◌, ℕ, ℤ, pos, map, List, [], ◌∷◌, ◌++◌, length, take, drop, replicate, get_or, arith, refl, sym, ap, ◌∙◌, zero-mul, Result, Ok, Err, OnOk}
 use Prim.Native.Nat.{zero, suc}
 use Rattle.std.specs.List.{All, flat_map, range_with_len}
-use Rattle.std.proofs.lemmas.List.{take_all, take-append-drop, drop-drop, length-take, length-drop, length-append, length-replicate, append-nil, drop-take, take-take}
+use Rattle.std.proofs.lemmas.List.{take_all, take-append-drop, drop-drop, length-take, length-drop, length-append, length-replicate, append-nil, drop-take, take-take, take-map, drop-map, length-map, map-append, append_assoc, drop_more, take_rest}
 use Rattle.std.proofs.lemmas.List.Concat.{flat_map-append}
 use Rattle.std.proofs.lemmas.List.Elements.{All-head, All-tail}
-use Rattle.std.proofs.Math.Nat.{mul-le-mul_left, mul_comm}
-use Rattle.j_definitions.specs.Array.{Array, Atom, product, IsNoun}
+use Rattle.std.proofs.Math.Nat.{mul-le-mul_left, mul_comm, mul-div_cancel_left}
+use Rattle.j_definitions.specs.Array.{Array, Atom, number, product, IsNoun}
 use Rattle.j_definitions.specs.declared.Kind.{Kind}
 use Rattle.j_rank.specs.Cells.{fill_atom}
 use Rattle.j_rank.specs.Assembly.{with_rank, part, padded, atoms_of_all}
@@ -50,7 +50,7 @@ parts_joined size xs a (suc n) =
     ∙ split_at (drop (a * size) xs) size (n * size) ∙ ap (λ k. take k (drop (a * size) xs)) more
 
 -- a part has its size
-part_many : (xs : List Atom) (m size k : ℕ) → length xs ≡ m * size → k < m → length (part size xs k) ≡ size
+pub part_many : {X : Type 0} (xs : List X) (m size k : ℕ) → length xs ≡ m * size → k < m → length (take size (drop (k * size) xs)) ≡ size
 part_many xs m size k e h =
     let more : k + 1 ≤ m = omega arith in
     omega (arith, length-take size (drop (k * size) xs), length-drop (k * size) xs, mul_comm size (k + 1), mul_comm size m, mul-le-mul_left size more)
@@ -87,3 +87,83 @@ length-atoms_of_all k s (a ∷ xs) nouns under =
     let first = length-padded (fill_atom k) (with_rank (length s) a.shape) s a.atoms (All-head (λ b. IsUnder (with_rank (length s) b.shape) s) a xs under) (noun.as_many ∙ sym (product-with_rank (length s) a.shape)) in
     omega (arith, first, length-append (padded (fill_atom k) (with_rank (length s) a.shape) s a.atoms) (atoms_of_all k s xs),
     length-atoms_of_all k s xs (All-tail IsNoun a xs nouns) (All-tail (λ b. IsUnder (with_rank (length s) b.shape) s) a xs under))
+
+-- a list by its first element and the rest
+abbrev pub head : List ℕ → ℕ
+head s = get_or s 0 0
+
+abbrev pub rest : List ℕ → List ℕ
+rest s = take (length s - 1) (drop 1 s)
+
+head_rest : (s : List ℕ) → 1 ≤ length s → s ≡ head s ∷ rest s
+head_rest s h = drop_more s 0 0 (omega arith) ∙ ap (λ r. head s ∷ r) (sym (take_rest s 1))
+
+product_head : (s : List ℕ) → 1 ≤ length s → product s ≡ head s * product (rest s)
+product_head s h = ap product (head_rest s h)
+
+pub rest_many : (s t : List ℕ) → length s ≡ length t → length (rest s) ≡ length (rest t)
+rest_many s t h = omega (arith, length-take (length s - 1) (drop 1 s), length-take (length t - 1) (drop 1 t), length-drop 1 s, length-drop 1 t)
+
+factor_left : (m n p : ℕ) → p ≡ m * n → 0 < p → 0 < m
+factor_left zero n p e h = absurd (omega arith)
+factor_left (suc m) n p e h = omega arith
+
+-- the size of an item
+pub item_size_is : (s : List ℕ) (size : ℕ) → 1 ≤ length s → size ≡ product s → 0 < head s → size / head s ≡ product (rest s)
+item_size_is s size h e some = ap (λ n. n / head s) (e ∙ product_head s h) ∙ mul-div_cancel_left (product (rest s)) some
+
+pub head_some : (s : List ℕ) (size : ℕ) → 1 ≤ length s → size ≡ product s → 0 < size → 0 < head s
+head_some s size h e some = factor_left (head s) (product (rest s)) size (e ∙ product_head s h) some
+
+pub rest_positive : (s : List ℕ) (size : ℕ) → 1 ≤ length s → size ≡ product s → 0 < size → 0 < product (rest s)
+rest_positive s size h e some = factor_left (product (rest s)) (head s) size (e ∙ product_head s h ∙ mul_comm (head s) (product (rest s))) some
+
+-- the numbers of item k
+pub item_many : (s : List ℕ) (vs run : List ℤ) (k : ℕ) → 1 ≤ length s → length vs ≡ product s → k < head s → run ≡ take (length vs / head s) (drop (k * (length vs / head s)) vs) →
+    length run ≡ product (rest s)
+item_many s vs run k h e g is =
+    let size = item_size_is s (length vs) h e (omega arith) in
+    ap length (is ∙ ap (λ q. take q (drop (k * q) vs)) size) ∙ part_many vs (head s) (product (rest s)) k (e ∙ product_head s h) g
+
+run_part : (vs run : List ℤ) (k q size : ℕ) → q ≡ size → run ≡ take q (drop (k * q) vs) → map number run ≡ part size (map number vs) k
+run_part vs run k q size e is =
+    ap (map number) (is ∙ ap (λ n. take n (drop (k * n) vs)) e) ∙ sym (ap (take size) (drop-map number (k * size) vs) ∙ take-map number size (drop (k * size) vs))
+
+-- items that are padded so far
+abbrev pub items_padded : List ℕ → List ℕ → List ℤ → ℕ → List Atom
+items_padded t s vs k = flat_map (λ j. padded (number (pos 0)) t s (part (product t) (map number vs) j)) (range_with_len 0 k)
+
+pub items_more : (t s : List ℕ) (vs run out mid new : List ℤ) (k q : ℕ) → q ≡ product t → run ≡ take q (drop (k * q) vs) → map number mid ≡ map number out ++ items_padded t s vs k →
+    map number new ≡ map number mid ++ padded (number (pos 0)) t s (map number run) → map number new ≡ map number out ++ items_padded t s vs (k + 1)
+items_more t s vs run out mid new k q e is before more =
+    more ∙ ap (λ r. r ++ padded (number (pos 0)) t s (map number run)) before
+    ∙ ap (λ r. (map number out ++ items_padded t s vs k) ++ padded (number (pos 0)) t s r) (run_part vs run k q (product t) e is)
+    ∙ append_assoc (map number out) (items_padded t s vs k) (padded (number (pos 0)) t s (part (product t) (map number vs) k))
+    ∙ ap (λ r. map number out ++ r) (sym (pieces_more (λ j. padded (number (pos 0)) t s (part (product t) (map number vs) j)) k))
+
+fills_map : (n : ℕ) → map number (replicate n (pos 0)) ≡ replicate n (number (pos 0))
+fills_map zero = refl
+fills_map (suc n) = ap (λ r. number (pos 0) ∷ r) (fills_map n)
+
+-- all items, and the fills behind them
+pub all_padded : (from to : List ℕ) (vs out mid new : List ℤ) (k count : ℕ) → 1 ≤ length from → 1 ≤ length to → k ≡ head from → count ≡ (head to - head from) * product (rest to) →
+    map number mid ≡ map number out ++ items_padded (rest from) (rest to) vs k → new ≡ mid ++ replicate count (pos 0) → map number new ≡ map number out ++ padded (number (pos 0)) from to (map number vs)
+all_padded from to vs out mid new k count f g ek ec before more =
+    let fills : List Atom = replicate ((head to - head from) * product (rest to)) (number (pos 0)) in
+    let all : items_padded (rest from) (rest to) vs k ++ fills ≡ padded (number (pos 0)) from to (map number vs) =
+      ap (λ j. items_padded (rest from) (rest to) vs j ++ fills) ek
+      ∙ sym (ap (λ s. padded (number (pos 0)) s to (map number vs)) (head_rest from f) ∙ ap (λ s. padded (number (pos 0)) (head from ∷ rest from) s (map number vs)) (head_rest to g)) in
+    ap (map number) more ∙ map-append number mid (replicate count (pos 0)) ∙ ap (λ r. r ++ map number (replicate count (pos 0))) before
+    ∙ ap (λ r. (map number out ++ items_padded (rest from) (rest to) vs k) ++ r) (fills_map count ∙ ap (λ j. replicate j (number (pos 0))) ec)
+    ∙ append_assoc (map number out) (items_padded (rest from) (rest to) vs k) fills ∙ ap (λ r. map number out ++ r) all
+
+-- nothing to be padded
+pub none_padded : (from to : List ℕ) (xs : List Atom) (vs out new : List ℤ) → from ≡ to → map number vs ≡ xs → length vs ≡ product from → new ≡ out ++ vs →
+    map number new ≡ map number out ++ padded (number (pos 0)) from to xs
+none_padded from to xs vs out new e ex many more =
+    let all : padded (number (pos 0)) from to xs ≡ xs = ap (λ s. padded (number (pos 0)) s to xs) e ∙ padded_same (number (pos 0)) to xs (ap length (sym ex) ∙ length-map vs number ∙ many ∙ ap product e) in
+    ap (map number) more ∙ map-append number out vs ∙ ap (λ r. map number out ++ r) (ex ∙ sym all)
+
+pub on_ok : {T E : Type 0} (r : Result T E) (P Q : Type 0) → (P → Q) → OnOk r P → OnOk r Q
+on_ok (Ok x) P Q f h = f h
+on_ok (Err e) P Q f h = tt
