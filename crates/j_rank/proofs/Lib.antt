@@ -3,3 +3,4 @@ pub mod Parts
 pub mod Made
 pub mod Widest
 pub mod Paddings
+pub mod Assembled

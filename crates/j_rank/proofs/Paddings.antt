@@ -85,8 +85,12 @@ length-atoms_of_all k s [] nouns under = omega arith
 length-atoms_of_all k s (a ∷ xs) nouns under =
     let noun = All-head IsNoun a xs nouns in
     let first = length-padded (fill_atom k) (with_rank (length s) a.shape) s a.atoms (All-head (λ b. IsUnder (with_rank (length s) b.shape) s) a xs under) (noun.as_many ∙ sym (product-with_rank (length s) a.shape)) in
-    omega (arith, first, length-append (padded (fill_atom k) (with_rank (length s) a.shape) s a.atoms) (atoms_of_all k s xs),
-    length-atoms_of_all k s xs (All-tail IsNoun a xs nouns) (All-tail (λ b. IsUnder (with_rank (length s) b.shape) s) a xs under))
+    omega (
+      arith,
+      first,
+      length-append (padded (fill_atom k) (with_rank (length s) a.shape) s a.atoms) (atoms_of_all k s xs),
+      length-atoms_of_all k s xs (All-tail IsNoun a xs nouns) (All-tail (λ b. IsUnder (with_rank (length s) b.shape) s) a xs under),
+    )
 
 -- a list by its first element and the rest
 abbrev pub head : List ℕ → ℕ
@@ -151,8 +155,8 @@ pub all_padded : (from to : List ℕ) (vs out mid new : List ℤ) (k count : ℕ
 all_padded from to vs out mid new k count f g ek ec before more =
     let fills : List Atom = replicate ((head to - head from) * product (rest to)) (number (pos 0)) in
     let all : items_padded (rest from) (rest to) vs k ++ fills ≡ padded (number (pos 0)) from to (map number vs) =
-      ap (λ j. items_padded (rest from) (rest to) vs j ++ fills) ek
-      ∙ sym (ap (λ s. padded (number (pos 0)) s to (map number vs)) (head_rest from f) ∙ ap (λ s. padded (number (pos 0)) (head from ∷ rest from) s (map number vs)) (head_rest to g)) in
+    ap (λ j. items_padded (rest from) (rest to) vs j ++ fills) ek
+    ∙ sym (ap (λ s. padded (number (pos 0)) s to (map number vs)) (head_rest from f) ∙ ap (λ s. padded (number (pos 0)) (head from ∷ rest from) s (map number vs)) (head_rest to g)) in
     ap (map number) more ∙ map-append number mid (replicate count (pos 0)) ∙ ap (λ r. r ++ map number (replicate count (pos 0))) before
     ∙ ap (λ r. (map number out ++ items_padded (rest from) (rest to) vs k) ++ r) (fills_map count ∙ ap (λ j. replicate j (number (pos 0))) ec)
     ∙ append_assoc (map number out) (items_padded (rest from) (rest to) vs k) fills ∙ ap (λ r. map number out ++ r) all

@@ -3,7 +3,7 @@ use Rattle.std.proofs.Common.{◌≡◌, ◌<◌, ◌≤◌, ◌+◌, ◌-◌, �
 use Prim.Native.Nat.{zero, suc}
 use Rattle.std.specs.List.{All, AllZip, fold}
 use Rattle.std.specs.Ordering.{ord_max, nat_cmp}
-use Rattle.std.proofs.lemmas.List.{take_more, length-append, length-replicate, get_or_append_left, get_or-append_right, get_or-replicate, ext_get_or}
+use Rattle.std.proofs.lemmas.List.{take_more, length-append, length-replicate, get_or_append_left, get_or-append_right, get_or-replicate, ext_get_or, take-replicate}
 use Rattle.std.proofs.lemmas.List.Sums.{fold_push}
 use Rattle.std.proofs.lemmas.List.Elements.{All-head, All-tail}
 use Rattle.j_definitions.specs.Array.{Array, product}
@@ -136,7 +136,7 @@ axes_each n s (a ∷ xs) (suc k) d e h g =
     let same = step_length n s a e (All-head (λ b. length b.shape ≤ n) a xs h) in
     axes_each n (wider n s a) xs k d (length-greater_axes s (with_rank n a.shape) same ∙ e) (All-tail (λ b. length b.shape ≤ n) a xs h) (omega arith)
 
-zeros_many : (n : ℕ) → length (replicate {A = ℕ} n 0) ≡ n
+pub zeros_many : (n : ℕ) → length (replicate {A = ℕ} n 0) ≡ n
 zeros_many n = length-replicate n 0
 
 pub length-common_shape : (xs : List Array) → length (common_shape xs) ≡ greatest_rank xs
@@ -147,3 +147,13 @@ pub all_under : (xs : List Array) → All (λ a. IsUnder (with_rank (length (com
 all_under xs = λ k d h.
     rw (length-common_shape xs)
     (axes_each (greatest_rank xs) (replicate (greatest_rank xs) 0) xs k d (zeros_many (greatest_rank xs)) (ranks_below xs) h)
+
+pub with_rank_same : (n : ℕ) (s : List ℕ) → length s ≡ n → with_rank n s ≡ s
+with_rank_same n s h = let none : n - length s ≡ 0 = omega arith in ap (λ k. replicate k 1 ++ s) none
+
+-- no axis is longer than 0 at first
+pub none_wide : (n : ℕ) → n ≤ 32 → take n (replicate {A = ℕ} 32 0) ≡ replicate n 0
+none_wide n h = take-replicate n 32 0 h
+
+pub rank_within : (xs : List Array) (i : ℕ) (a : Array) (axes : List ℕ) (n : ℕ) → i < length xs → a ≡ get_or xs i a → axes ≡ a.shape → n ≡ greatest_rank xs → length axes ≤ n
+rank_within xs i a axes n h is e en = omega (arith, ranks_below xs i a h, ap (λ (b : Array). length b.shape) is, ap length e)

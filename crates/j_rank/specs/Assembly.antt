@@ -1,14 +1,13 @@
 -- How the results of cells become one noun.
-use Rattle.std.specs.Prelude.{◌≡◌, ℕ, ◌+◌, ◌-◌, ◌*◌, max, Bool, true, false, ◌&&◌, nat_le, nat_eq, cond, List, [], ◌∷◌, ◌++◌, length, take, drop, replicate, Option, Some, None, Result, Ok, Err}
+use Rattle.std.specs.Prelude.{ℕ, ◌+◌, ◌-◌, ◌*◌, max, Bool, true, false, nat_eq, cond, List, [], ◌∷◌, ◌++◌, length, take, drop, replicate, Option, Some, None, Result, Ok, Err}
 use Rattle.std.specs.List.{fold, flat_map, list_all, range_with_len}
-use Rattle.j_definitions.specs.Array.{Array, Atom, product, weight, level}
+use Rattle.j_definitions.specs.Array.{Array, Atom, product}
 use Rattle.j_definitions.specs.declared.Kind.{Kind}
 use Rattle.j_definitions.specs.declared.Kind.TheVariants.{Number, Character, Boxed}
 use Rattle.j_definitions.specs.declared.Fault.{Fault}
-use Rattle.j_definitions.specs.declared.Fault.TheVariants.{Domain, Limit}
-use Rattle.j_noun.specs.declared.refusal.Refusal.{Refusal}
-use Rattle.j_noun.specs.declared.refusal.Refusal.TheVariants.{Fault as RefusedFault, NoMemory}
+use Rattle.j_definitions.specs.declared.Fault.TheVariants.{Domain}
 use Rattle.j_rank.specs.Cells.{fill_atom}
+use Rattle.j_rank.specs.Answers.{limited}
 
 -- brought to n axes by leading axes of length 1
 abbrev pub with_rank : ℕ → List ℕ → List ℕ
@@ -68,14 +67,6 @@ abbrev pub assembled : List ℕ → List Array → Kind → Array
 assembled f results k =
     record { kind = k; shape = f ++ common_shape results; atoms = atoms_of_all k (common_shape results) (take (product f) results) }
 
--- whether the limits of a noun hold
-abbrev pub is_within : Array → Bool
-is_within a = nat_le (length a.shape) 32 && list_all (λ n. nat_le n 4194304) a.shape && nat_le (weight a) 4194304 && nat_le (level a) 64
-
--- that noun, or `limit error` where it passes a limit
-abbrev pub limited : Array → Result Array Fault
-limited a = cond (is_within a) (Ok a) (Err Limit)
-
 abbrev pub assembled_as : List ℕ → List Array → Option Kind → Result Array Fault
 assembled_as f results None = Err Domain
 assembled_as f results (Some k) = limited (assembled f results k)
@@ -83,9 +74,3 @@ assembled_as f results (Some k) = limited (assembled f results k)
 -- the noun of the results of a frame, or `domain error` where their kinds don't join, or `limit error`
 abbrev pub assemble : List ℕ → List Array → Result Array Fault
 assemble f results = assembled_as f results (joined_kind results)
-
--- the noun or the fault, or memory was wanting
-abbrev pub IsAnswer : Result Array Fault → Result Array Refusal → Type 0
-IsAnswer r (Ok a) = r ≡ Ok a
-IsAnswer r (Err NoMemory) = Unit {0}
-IsAnswer r (Err (RefusedFault e)) = r ≡ Err e

@@ -1,10 +1,8 @@
 -- The cells of a noun: which axes are their frame, and what each cell is.
-use Rattle.std.specs.Prelude.{◌≡◌, ℕ, ◌+◌, ◌-◌, ◌*◌, pos, negsuc, min, List, [], ◌∷◌, length, take, drop, replicate, Result, Ok, Err}
-use Rattle.j_definitions.specs.Array.{Array, Atom, number, byte, boxed, product, IsWithin}
+use Rattle.std.specs.Prelude.{ℕ, ◌+◌, ◌-◌, ◌*◌, pos, negsuc, min, List, [], ◌∷◌, length, take, drop, replicate}
+use Rattle.j_definitions.specs.Array.{Array, Atom, number, byte, boxed, product}
 use Rattle.j_definitions.specs.declared.Kind.{Kind}
 use Rattle.j_definitions.specs.declared.Kind.TheVariants.{Number as NumberKind, Character, Boxed}
-use Rattle.j_noun.specs.Refused.{IsRefusedBeyond}
-use Rattle.j_noun.specs.declared.refusal.Refusal.{Refusal}
 use Rattle.j_noun.specs.declared.ranks.Rank.{Rank}
 use Rattle.j_noun.specs.declared.ranks.Rank.TheVariants.{Number, Infinite}
 
@@ -34,12 +32,3 @@ fill_atom Boxed = boxed (record { kind = NumberKind; shape = 0 ∷ []; atoms = [
 -- the cell of fills
 abbrev pub cell_of_fills : ℕ → Array → Array
 cell_of_fills n a = record { kind = a.kind; shape = drop n a.shape; atoms = replicate (cell_size n a.shape) (fill_atom a.kind) }
-
--- within the limits of a noun
-abbrev pub KeepsLimits : Array → Type 0
-KeepsLimits a = IsWithin a.shape a.atoms
-
--- that noun, or `limit error` exactly where it passes a limit
-abbrev pub IsMade : Array → Result Array Refusal → Type 0
-IsMade a (Ok b) = (b ≡ a) × KeepsLimits a
-IsMade a (Err e) = IsRefusedBeyond (KeepsLimits a) e

@@ -1,4 +1,5 @@
 pub mod Cells
 pub mod Plans
+pub mod Answers
 pub mod Assembly
 pub mod Collected

@@ -2,7 +2,8 @@
 ghost use Rattle.std.specs.Prelude.{◌≡◌, ◌<◌, ◌≤◌, ◌+◌, ◌*◌, [], length, map, take, drop, IfOk, IsOk};
 ghost use Rattle.j_definitions.specs.Array.{number, product, IsNoun};
 ghost use Rattle.j_definitions.specs.declared.Kind.TheVariants.{Number as NumberKind};
-ghost use Rattle.j_rank.specs.Cells.{frame_axes, frame_of, cell, cell_of_fills, IsMade};
+ghost use Rattle.j_rank.specs.Cells.{frame_axes, frame_of, cell, cell_of_fills};
+ghost use Rattle.j_rank.specs.Answers.{limited, IsAnswer};
 
 use crate::sizes::{shape_of, size_within};
 use j_definitions::Fault;
@@ -93,7 +94,7 @@ pub fn cell_of(alloc: Global, y: &Noun, n: usize, k: usize) -> Result<Noun, NoMe
 /// The cell of fills, where n axes are the frame.
 pub fn fills_of(alloc: Global, y: &Noun, n: usize) -> Result<Noun, Refusal>
     requires { n ≤ length y.now.shape }
-    ensures { IsMade (cell_of_fills n y.now) result }
+    ensures { IsAnswer (limited (cell_of_fills n y.now)) result }
 {
     let _ = numbers(y);
     let own = &y.axes()[n..];

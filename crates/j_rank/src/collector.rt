@@ -1,7 +1,8 @@
 // Collecting results, and the noun that they become.
 ghost use Rattle.std.specs.Prelude.{◌≡◌, ◌++◌, [], ◌∷◌, length, max, OnOk, OnErr};
 ghost use Rattle.j_definitions.specs.Array.{product};
-ghost use Rattle.j_rank.specs.Assembly.{assemble, IsAnswer};
+ghost use Rattle.j_rank.specs.Answers.{IsAnswer};
+ghost use Rattle.j_rank.specs.Assembly.{assemble};
 
 use crate::common::common_shape;
 use crate::padding::gather;
@@ -26,6 +27,22 @@ impl Model for Collector {
     ghost coded = { collected_code };
 
     ghost view = { λ c. record { frame = c.frame; results = c.results.items } };
+}
+
+// The noun of the results of a frame.
+fn assemble(alloc: Global, frame: Shape, results: &[Noun]) -> Result<Noun, Refusal>
+    requires { length results.now ≡ max (product frame) 1 }
+    ensures { IsAnswer (assemble frame results.now) result }
+{
+    let common = common_shape(results);
+    let Ok(shape) = extended(frame, common.axes()) else {
+        return Err(Refusal::Fault(Fault::Limit));
+    };
+    let Some(total) = size_within(shape.axes()) else {
+        return Err(Refusal::Fault(Fault::Limit));
+    };
+    let atoms = gather(alloc, common.axes(), total, results)?;
+    Noun::make(alloc, shape, Atoms::Wholes(atoms))
 }
 
 impl Collector {
@@ -54,17 +71,6 @@ impl Collector {
         requires { length self.results ≡ max (product self.frame) 1 }
         ensures { IsAnswer (assemble self.frame self.results) result }
     {
-        let Collector { frame, results } = self;
-        let common = common_shape(&results);
-        let shape = extended(frame, common.axes())?;
-        let Some(total) = size_within(shape.axes()) else {
-            return Err(Refusal::Fault(Fault::Limit));
-        };
-        let atoms = if total == 0 {
-            Vec::new(alloc)
-        } else {
-            gather(alloc, common.axes(), total / results.len(), total, &results)?
-        };
-        Noun::make(alloc, shape, Atoms::Wholes(atoms))
+        assemble(alloc, self.frame, &self.results)
     }
 }

@@ -1,5 +1,5 @@
 // Results in one buffer, padded to their common shape.
-ghost use Rattle.std.specs.Prelude.{◌≡◌, ◌<◌, ◌≤◌, ◌++◌, pos, length, map, replicate, OnOk, IfOk};
+ghost use Rattle.std.specs.Prelude.{◌≡◌, ◌<◌, ◌≤◌, ◌++◌, ◌*◌, [], pos, length, map, replicate, OnOk, IfOk};
 ghost use Rattle.std.specs.List.{All};
 ghost use Rattle.j_definitions.specs.Array.{number, product, IsNoun};
 ghost use Rattle.j_definitions.specs.declared.Kind.TheVariants.{Number as NumberKind};
@@ -85,20 +85,23 @@ fn append_result(
     append_padded(out, from.axes(), common, size, numbers)
 }
 
-/// The atoms of all results, brought to the common shape, whose product is the size.
+/// The atoms of all results, brought to the common shape: as many as the total, unless that is 0.
 pub fn gather(
     alloc: Global,
     common: &[usize],
-    size: usize,
     total: usize,
     results: &[Noun],
 ) -> Result<Vec<i64>, NoMemory>
     requires rank { All (λ a. length a.shape ≤ length common.now) results.now }
     requires few { length common.now ≤ 32 }
-    requires size { size ≡ product common.now }
-    requires some { 0 < size }
-    ensures { IfOk result (λ v. map number v.items ≡ atoms_of_all NumberKind common.now results.now) }
+    requires total { 0 < total → total ≡ length results.now * product common.now }
+    ensures none { IfOk result (λ v. total ≡ 0 → v.items ≡ []) }
+    ensures all { IfOk result (λ v. 0 < total → map number v.items ≡ atoms_of_all NumberKind common.now results.now) }
 {
+    if total == 0 {
+        return Ok(Vec::new(alloc));
+    }
+    let size = total / results.len();
     let Ok(mut out) = Vec::with_capacity(alloc, total) else {
         return Err(NoMemory);
     };

@@ -1,7 +1,8 @@
 // Plans: which cells of a verb's arguments meet.
 ghost use Rattle.std.specs.Prelude.{◌≡◌, ◌<◌, ◌≤◌, ◌/◌, [], length, take, drop, IfOk, IfErr, IsOk};
 ghost use Rattle.j_definitions.specs.Array.{product};
-ghost use Rattle.j_rank.specs.Cells.{cell, cell_of_fills, IsMade};
+ghost use Rattle.j_rank.specs.Cells.{cell, cell_of_fills};
+ghost use Rattle.j_rank.specs.Answers.{limited, IsAnswer};
 ghost use Rattle.j_rank.specs.Plans.{dyad_plan, monad_plan, plan_of, planned, HasCells, Repeats};
 
 use crate::cells::{cell_of, fills_of, frame_of};
@@ -132,7 +133,7 @@ impl Plan {
     /// A left cell of fills.
     pub fn fill_left(&self, alloc: Global, x: &Noun) -> Result<Noun, Refusal>
         requires { self.now.left ≤ length x.now.shape }
-        ensures { IsMade (cell_of_fills self.now.left x.now) result }
+        ensures { IsAnswer (limited (cell_of_fills self.now.left x.now)) result }
     {
         fills_of(alloc, x, self.left.axes)
     }
@@ -140,7 +141,7 @@ impl Plan {
     /// A right cell of fills.
     pub fn fill_right(&self, alloc: Global, y: &Noun) -> Result<Noun, Refusal>
         requires { self.now.right ≤ length y.now.shape }
-        ensures { IsMade (cell_of_fills self.now.right y.now) result }
+        ensures { IsAnswer (limited (cell_of_fills self.now.right y.now)) result }
     {
         fills_of(alloc, y, self.right.axes)
     }

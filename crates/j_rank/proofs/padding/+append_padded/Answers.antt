@@ -13,9 +13,19 @@ append_padded-requires t c =
     let from : 1 ≤ length c.args.from.now = c.in-len1-up.len_at_least in
     let to : 1 ≤ length c.args.to.now = c.in-len1-up-to.len_at_least in
     let some = head_some c.args.to.now c.args.size to c.requires.size c.requires.some in
-    let item = item_size_is c.args.to.now c.args.size to c.requires.size some in
-    (search rules, (rest_many c.args.from.now c.args.to.now c.requires.rank, (item, (omega (arith, item, rest_positive c.args.to.now c.args.size to c.requires.size c.requires.some),
-    item_many c.args.from.now c.args.numbers.now c.run_of-item.result.now c.loop-k.k from c.requires.many c.loop-k-test.true c.run_of-item.ensures))))
+    let item = item_size_is c.args.to.now c.args.size to c.requires.size some in (
+      search rules,
+      (
+        rest_many c.args.from.now c.args.to.now c.requires.rank,
+        (
+          item,
+          (
+            omega (arith, item, rest_positive c.args.to.now c.args.size to c.requires.size c.requires.some),
+            item_many c.args.from.now c.args.numbers.now c.run_of-item.result.now c.loop-k.k from c.requires.many c.loop-k-test.true c.run_of-item.ensures,
+          ),
+        ),
+      ),
+    )
 
 pub loop-k-preserved : goal.loop-k-preserved
 loop-k-preserved t c =
