@@ -3,3 +3,4 @@ pub mod Plans
 pub mod Answers
 pub mod Assembly
 pub mod Collected
+pub mod Rows

@@ -6,7 +6,11 @@ mod collector;
 mod common;
 mod padding;
 mod plan;
+mod rows;
 mod sizes;
+#[cfg(test)]
+mod tests;
 
 pub use collector::Collector;
 pub use plan::{Plan, plan_dyad, plan_monad};
+pub use rows::{limit_laws, worked_assemblies, worked_plans};

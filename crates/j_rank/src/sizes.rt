@@ -16,10 +16,13 @@ pub fn size_within(axes: &[usize]) -> Option<usize>
     }
     let mut size: usize = 1;
     for n in axes {
-        match size.checked_mul(*n) {
-            Some(more) if more <= CELL_LIMIT => size = more,
-            _ => return None,
+        let Some(more) = size.checked_mul(*n) else {
+            return None;
+        };
+        if more > CELL_LIMIT {
+            return None;
         }
+        size = more;
     }
     Some(size)
 }

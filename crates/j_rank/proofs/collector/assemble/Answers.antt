@@ -18,7 +18,7 @@ returns-in_default c =
 pub returns-in_default-size_within : goal.returns-in_default-size_within
 returns-in_default-size_within c =
     let shape : c.axes-2.result.now ≡ c.args.frame ++ common_shape c.args.results.now =
-      c.axes-2.ensures.value ∙ c.in-Ok.ensures.ok ∙ ap (λ s. c.args.frame ++ s) (c.axes.ensures.value ∙ c.common_shape-common.ensures.value) in
+    c.axes-2.ensures.value ∙ c.in-Ok.ensures.ok ∙ ap (λ s. c.args.frame ++ s) (c.axes.ensures.value ∙ c.common_shape-common.ensures.value) in
     size_beyond c.args.frame c.args.results.now c.common_shape-common.ensures.kinds c.common_shape-common.ensures.nouns c.requires
     (omega (arith, c.in_default-size_within.ensures, ap product shape))
 
@@ -29,7 +29,7 @@ gather-requires-clause-rank c = λ k d h.
 pub gather-requires-clause-total : goal.gather-requires-clause-total
 gather-requires-clause-total c = λ some.
     let shape : c.axes-2.result.now ≡ c.args.frame ++ common_shape c.args.results.now =
-      c.axes-2.ensures.value ∙ c.in-Ok.ensures.ok ∙ ap (λ s. c.args.frame ++ s) (c.axes.ensures.value ∙ c.common_shape-common.ensures.value) in
+    c.axes-2.ensures.value ∙ c.in-Ok.ensures.ok ∙ ap (λ s. c.args.frame ++ s) (c.axes.ensures.value ∙ c.common_shape-common.ensures.value) in
     total_is c.args.frame c.args.results.now c.in-Some.total c.requires (c.in-Some.ensures.0 ∙ ap product shape) some
     ∙ ap (λ s. length c.args.results.now * product s) (sym (c.axes-3.ensures.value ∙ c.common_shape-common.ensures.value))
 
@@ -38,7 +38,7 @@ make-requires c =
     let ends : c.in-Ok.shape ≡ c.args.frame ++ common_shape c.args.results.now = c.in-Ok.ensures.ok ∙ ap (λ s. c.args.frame ++ s) (c.axes.ensures.value ∙ c.common_shape-common.ensures.value) in
     let common : c.axes-3.result.now ≡ common_shape c.args.results.now = c.axes-3.ensures.value ∙ c.common_shape-common.ensures.value in
     let atoms = gathered c.args.frame c.args.results.now c.in_ok-atoms.atoms.items c.in-Some.total c.common_shape-common.ensures.nouns c.requires
-      (c.in-Some.ensures.0 ∙ ap product (c.axes-2.ensures.value ∙ ends)) c.in_ok-atoms.ensures.none (λ some. c.in_ok-atoms.ensures.all some ∙ ap (λ s. atoms_of_all Number s c.args.results.now) common) in
+    (c.in-Some.ensures.0 ∙ ap product (c.axes-2.ensures.value ∙ ends)) c.in_ok-atoms.ensures.none (λ some. c.in_ok-atoms.ensures.all some ∙ ap (λ s. atoms_of_all Number s c.args.results.now) common) in
     ap length atoms ∙ assembled_many c.args.frame c.args.results.now Number c.common_shape-common.ensures.nouns c.requires ∙ ap product (sym ends)
 
 pub returns : goal.returns
@@ -46,7 +46,7 @@ returns c =
     let ends : c.in-Ok.shape ≡ c.args.frame ++ common_shape c.args.results.now = c.in-Ok.ensures.ok ∙ ap (λ s. c.args.frame ++ s) (c.axes.ensures.value ∙ c.common_shape-common.ensures.value) in
     let common : c.axes-3.result.now ≡ common_shape c.args.results.now = c.axes-3.ensures.value ∙ c.common_shape-common.ensures.value in
     let atoms = gathered c.args.frame c.args.results.now c.in_ok-atoms.atoms.items c.in-Some.total c.common_shape-common.ensures.nouns c.requires
-      (c.in-Some.ensures.0 ∙ ap product (c.axes-2.ensures.value ∙ ends)) c.in_ok-atoms.ensures.none (λ some. c.in_ok-atoms.ensures.all some ∙ ap (λ s. atoms_of_all Number s c.args.results.now) common) in
+    (c.in-Some.ensures.0 ∙ ap product (c.axes-2.ensures.value ∙ ends)) c.in_ok-atoms.ensures.none (λ some. c.in_ok-atoms.ensures.all some ∙ ap (λ s. atoms_of_all Number s c.args.results.now) common) in
     subst (λ (r : Result Array Fault). IsAnswer r c.make.result) (sym (assemble_numbers c.args.frame c.args.results.now c.common_shape-common.ensures.kinds (omega (arith, c.requires))))
     (made_answers (numbers_array c.in-Ok.shape c.in_ok-atoms.atoms.items) (assembled c.args.frame c.args.results.now Number) c.make.result
     (assembled_is c.args.frame c.args.results.now c.in-Ok.shape c.in_ok-atoms.atoms.items ends atoms) c.make.ensures.ok c.make.ensures.err)

@@ -9,12 +9,12 @@ returns-then-contains c = (sym (product_zero c.args.axes.now (sym c.contains.ens
 pub returns-in_default : goal.returns-in_default
 returns-in_default c =
     product_beyond c.args.axes.now c.loop-n.n-index c.loop-n.size 4194304 (omega arith) (sym c.contains.ensures.value ∙ c.if-contains.false) c.loop-n.invariant.so_far
-    (omega (arith, c.in-Some.ensures))
-
-pub returns-in_default-2 : goal.returns-in_default-2
-returns-in_default-2 c =
-    product_beyond c.args.axes.now c.loop-n.n-index c.loop-n.size 4194304 (omega arith) (sym c.contains.ensures.value ∙ c.if-contains.false) c.loop-n.invariant.so_far
     (omega (arith, c.in_default.ensures))
+
+pub returns-then-more-gt-CELL_LIMIT : goal.returns-then-more-gt-CELL_LIMIT
+returns-then-more-gt-CELL_LIMIT c =
+    product_beyond c.args.axes.now c.loop-n.n-index c.loop-n.size 4194304 (omega arith) (sym c.contains.ensures.value ∙ c.if-contains.false) c.loop-n.invariant.so_far
+    (omega (arith, c.in-Some.ensures))
 
 pub loop-n-preserved : goal.loop-n-preserved
 loop-n-preserved c = record {
