@@ -1,13 +1,12 @@
 -- Results that become one noun.
-use Rattle.std.proofs.Common.{◌≡◌, ◌<◌, ◌≤◌, ◌+◌, ◌*◌, ℕ, ℤ, max, min, Bool, true, false, ◌&&◌, nat_eq, cond, List, [], ◌∷◌, ◌++◌, length, map, take, arith, refl, sym, ap, ◌∙◌, Option, Some, None, Result, Ok, Err}
+use Rattle.std.proofs.Common.{◌≡◌, ◌<◌, ◌+◌, ◌*◌, ℕ, ℤ, max, true, false, ◌&&◌, nat_eq, cond, List, [], ◌∷◌, ◌++◌, length, map, take, arith, refl, sym, ap, ◌∙◌, Option, Some, None, Err}
 use Prim.Native.Nat.{zero, suc}
 use Rattle.std.specs.List.{All, list_all}
 use Rattle.std.proofs.lemmas.List.{length-append, length-take, take_all, nil_from_length}
 use Rattle.std.proofs.lemmas.List.Elements.{All-nil, All-cons, All-head, All-tail, All-take}
-use Rattle.j_definitions.specs.Array.{Array, Atom, number, product, IsNoun, IsWithin}
+use Rattle.j_definitions.specs.Array.{Array, number, product, IsNoun}
 use Rattle.j_definitions.specs.declared.Kind.{Kind}
 use Rattle.j_definitions.specs.declared.Kind.TheVariants.{Number}
-use Rattle.j_definitions.specs.declared.Fault.{Fault}
 use Rattle.j_definitions.specs.declared.Fault.TheVariants.{Limit}
 use Rattle.j_rank.specs.Answers.{limited}
 use Rattle.j_rank.specs.Assembly.{with_rank, common_shape, atoms_of_all, same_kind, kinds_with_atoms, one_kind, joined_kind, assembled, assembled_as, assemble}

@@ -2,7 +2,7 @@
 use Rattle.std.proofs.Common.{◌≡◌, ◌<◌, ◌≤◌, ◌+◌, ◌-◌, ◌*◌, ℕ, ℤ, pos, List, [], ◌∷◌, length, map, take, drop, get_or, arith, refl, sym, ap, ◌∙◌, mul-one}
 use Rattle.std.proofs.lemmas.List.{take-map, drop-map, length-map, length-take, length-drop, drop_all, drop_more, take_rest}
 use Rattle.std.proofs.Math.Nat.{mul-le-mul_left, mul_comm}
-use Rattle.j_definitions.specs.Array.{Array, Atom, number, product, atom_array, IsNoun}
+use Rattle.j_definitions.specs.Array.{Array, number, product, atom_array, IsNoun}
 use Rattle.j_definitions.specs.declared.Kind.TheVariants.{Number}
 use Rattle.j_rank.specs.Cells.{cell, cell_size}
 use Rattle.j_rank.proofs.Products.{product_parts}

@@ -1,5 +1,5 @@
 -- The common shape of results.
-use Rattle.std.proofs.Common.{◌≡◌, ◌<◌, ◌≤◌, ◌+◌, ◌-◌, ◌*◌, ℕ, max, List, [], ◌∷◌, ◌++◌, length, take, drop, replicate, get_or, arith, rules, refl, sym, ap, ◌∙◌}
+use Rattle.std.proofs.Common.{◌≡◌, ◌<◌, ◌≤◌, ◌+◌, ◌-◌, ◌*◌, ℕ, max, List, [], ◌∷◌, ◌++◌, length, take, replicate, get_or, arith, rules, refl, sym, ap, ◌∙◌}
 use Prim.Native.Nat.{zero, suc}
 use Rattle.std.specs.List.{All, AllZip, fold}
 use Rattle.std.specs.Ordering.{ord_max, nat_cmp}

@@ -1,5 +1,5 @@
 -- How the results of cells become one noun.
-use Rattle.std.specs.Prelude.{ℕ, ◌+◌, ◌-◌, ◌*◌, max, Bool, true, false, nat_eq, cond, List, [], ◌∷◌, ◌++◌, length, take, drop, replicate, Option, Some, None, Result, Ok, Err}
+use Rattle.std.specs.Prelude.{ℕ, ◌-◌, ◌*◌, max, Bool, true, false, nat_eq, cond, List, [], ◌∷◌, ◌++◌, length, take, drop, replicate, Option, Some, None, Result, Err}
 use Rattle.std.specs.List.{fold, flat_map, list_all, range_with_len}
 use Rattle.j_definitions.specs.Array.{Array, Atom, product}
 use Rattle.j_definitions.specs.declared.Kind.{Kind}

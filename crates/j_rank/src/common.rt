@@ -46,6 +46,9 @@ pub fn common_shape(results: &[Noun]) -> Shape
     ensures kinds { All (λ a. a.kind ≡ NumberKind) results.now }
 {
     let rank = greatest_rank(results);
+    if rank == 0 {
+        return Shape::new();
+    }
     let mut all = [0; 32];
     let lengths = &mut all[..rank];
     for r in results {

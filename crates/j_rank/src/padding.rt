@@ -14,10 +14,11 @@ use std::alloc::Global;
 fn append(out: &mut Vec<i64>, numbers: &[i64]) -> Result<(), NoMemory>
     ensures { OnOk result (out.new.items ≡ out.old.items ++ numbers.now) }
 {
-    match out.extend_from_slice(numbers) {
-        Ok(()) => Ok(()),
-        Err(_) => Err(NoMemory),
-    }
+    let is_appended = match numbers {
+        [z] => out.push(*z).is_ok(),
+        _ => out.extend_from_slice(numbers).is_ok(),
+    };
+    if is_appended { Ok(()) } else { Err(NoMemory) }
 }
 
 // Appends that many fills.

@@ -1,6 +1,5 @@
-use Rattle.std.proofs.Common.{◌≡◌, ◌≤◌, ◌<◌, ◌*◌, ◌∙◌, ◌++◌, ap, sym, arith, length, map, subst, Result, Ok, Err, []}
-use Rattle.std.proofs.lemmas.List.{length-map}
-use Rattle.j_definitions.specs.Array.{Array, number, product}
+use Rattle.std.proofs.Common.{◌≡◌, ◌*◌, ◌∙◌, ◌++◌, ap, sym, arith, length, subst, Result}
+use Rattle.j_definitions.specs.Array.{Array, product}
 use Rattle.j_definitions.specs.declared.Fault.{Fault}
 use Rattle.j_definitions.specs.declared.Kind.TheVariants.{Number}
 use Rattle.j_rank.specs.Answers.{IsAnswer}

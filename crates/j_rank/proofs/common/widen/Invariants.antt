@@ -1,4 +1,4 @@
-use Rattle.std.proofs.Common.{◌≡◌, ◌<◌, ◌≤◌, ◌-◌, ℕ, max, length, get_or}
+use Rattle.std.proofs.Common.{◌≡◌, ◌<◌, ◌≤◌, ℕ, max, length, get_or}
 use Rattle.j_rank.specs.Assembly.{with_rank}
 use Rattle.j_rank.proofs.common.widen.Given as goal
 

@@ -1,4 +1,4 @@
-use Rattle.std.proofs.Common.{◌≡◌, ◌∙◌, ap, sym, arith, rules, length}
+use Rattle.std.proofs.Common.{◌≡◌, ◌∙◌, ap, sym, rules, length}
 use Rattle.j_definitions.specs.Array.{product}
 use Rattle.j_rank.specs.Assembly.{with_rank}
 use Rattle.j_rank.proofs.Parts.{numbers_many}

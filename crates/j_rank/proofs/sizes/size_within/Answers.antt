@@ -1,4 +1,4 @@
-use Rattle.std.proofs.Common.{◌≡◌, ◌<◌, ◌+◌, ◌*◌, drop, get_or, arith, sym, ap, ◌∙◌}
+use Rattle.std.proofs.Common.{◌+◌, ◌*◌, drop, arith, sym, ap, ◌∙◌}
 use Rattle.j_definitions.specs.Array.{product}
 use Rattle.j_rank.proofs.Products.{product_zero, product_more, product_ended, product_beyond}
 use Rattle.j_rank.proofs.sizes.size_within.Goals as goal
