@@ -12,7 +12,8 @@ use Rattle.j_rank.specs.Answers.{limited}
 use Rattle.j_rank.specs.Assembly.{with_rank, common_shape, atoms_of_all, same_kind, kinds_with_atoms, one_kind, joined_kind, assembled, assembled_as, assemble}
 use Rattle.j_rank.proofs.Products.{product_append}
 use Rattle.j_rank.proofs.Made.{numbers_array, limited-Err, many_beyond}
-use Rattle.j_rank.proofs.Widest.{IsUnder, all_under}
+use Rattle.j_rank.specs.Places.{IsUnder}
+use Rattle.j_rank.proofs.Widest.{all_under}
 use Rattle.j_rank.proofs.Paddings.{length-atoms_of_all}
 
 abbrev AreNumbers : List Array → Type 0

@@ -4,3 +4,4 @@ pub mod Made
 pub mod Widest
 pub mod Paddings
 pub mod Assembled
+pub mod Placing

@@ -36,11 +36,11 @@ zeros_are_fills a n size own zeros kind shape e is =
 all_true : (a b c d : Bool) → a ≡ true → b ≡ true → c ≡ true → d ≡ true → (a && b && c && d) ≡ true
 all_true a b c d ea eb ec ed = rw (ea, eb, ec, ed) refl
 
-true_left : (a b : Bool) → (a && b) ≡ true → a ≡ true
+pub true_left : (a b : Bool) → (a && b) ≡ true → a ≡ true
 true_left true b h = refl
 true_left false b h = cc
 
-true_right : (a b : Bool) → (a && b) ≡ true → b ≡ true
+pub true_right : (a b : Bool) → (a && b) ≡ true → b ≡ true
 true_right true b h = h
 true_right false b h = cc
 

@@ -10,7 +10,8 @@ use Rattle.j_definitions.specs.Array.{Array, Atom, number, product, IsNoun}
 use Rattle.j_definitions.specs.declared.Kind.{Kind}
 use Rattle.j_rank.specs.Cells.{fill_atom}
 use Rattle.j_rank.specs.Assembly.{with_rank, part, padded, atoms_of_all}
-use Rattle.j_rank.proofs.Widest.{IsUnder, product-with_rank}
+use Rattle.j_rank.specs.Places.{IsUnder}
+use Rattle.j_rank.proofs.Widest.{product-with_rank}
 
 range_more : (a n : ℕ) → range_with_len a (n + 1) ≡ range_with_len a n ++ (a + n) ∷ []
 range_more a zero = let e : a ≡ a + 0 = omega arith in ap (λ k. k ∷ []) e
@@ -26,7 +27,7 @@ pieces_more f n =
     ap (flat_map f) (range_more 0 n) ∙ flat_map-append f (range_with_len 0 n) ((0 + n) ∷ []) ∙ ap (λ r. flat_map f (range_with_len 0 n) ++ r) (append-nil (f (0 + n)) ∙ ap f last)
 
 -- pieces of one length
-pieces_many : {X : Type 0} (f : ℕ → List X) (size a n : ℕ) → ((k : ℕ) → k < a + n → length (f k) ≡ size) → length (flat_map f (range_with_len a n)) ≡ n * size
+pub pieces_many : {X : Type 0} (f : ℕ → List X) (size a n : ℕ) → ((k : ℕ) → k < a + n → length (f k) ≡ size) → length (flat_map f (range_with_len a n)) ≡ n * size
 pieces_many f size a zero h = omega arith
 pieces_many f size a (suc n) h =
     omega (arith, length-append (f a) (flat_map f (range_with_len (a + 1) n)), h a (omega arith), pieces_many f size (a + 1) n (λ k g. h k (omega arith)))

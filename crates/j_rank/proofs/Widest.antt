@@ -1,13 +1,14 @@
 -- The common shape of results.
 use Rattle.std.proofs.Common.{◌≡◌, ◌<◌, ◌≤◌, ◌+◌, ◌-◌, ◌*◌, ℕ, max, List, [], ◌∷◌, ◌++◌, length, take, replicate, get_or, arith, rules, refl, sym, ap, ◌∙◌}
 use Prim.Native.Nat.{zero, suc}
-use Rattle.std.specs.List.{All, AllZip, fold}
+use Rattle.std.specs.List.{All, fold}
 use Rattle.std.specs.Ordering.{ord_max, nat_cmp}
 use Rattle.std.proofs.lemmas.List.{take_more, length-append, length-replicate, get_or_append_left, get_or-append_right, get_or-replicate, ext_get_or, take-replicate}
 use Rattle.std.proofs.lemmas.List.Sums.{fold_push}
 use Rattle.std.proofs.lemmas.List.Elements.{All-head, All-tail}
 use Rattle.j_definitions.specs.Array.{Array, product}
 use Rattle.j_rank.specs.Assembly.{with_rank, greatest_rank, greater_axes, greatest_axes, common_shape}
+use Rattle.j_rank.specs.Places.{IsUnder}
 use Rattle.j_rank.proofs.Products.{product_append}
 
 abbrev longer : ℕ → Array → ℕ
@@ -80,10 +81,6 @@ widened old axes new h e each =
     let many : length old ≡ length led = sym (length-with_rank (length old) axes h) in
     ext_get_or 0 new (greater_axes old led) (e ∙ sym (length-greater_axes old led many))
     (λ k g. each k (omega arith) ∙ sym (get_or-greater_axes old led k many (omega arith)))
-
--- each axis is at most as long
-abbrev pub IsUnder : List ℕ → List ℕ → Type 0
-IsUnder s t = AllZip (λ m n. m ≤ n) s t
 
 under_self : (s : List ℕ) → IsUnder s s
 under_self [] = tt

@@ -3,4 +3,5 @@ pub mod Plans
 pub mod Answers
 pub mod Assembly
 pub mod Collected
+pub mod Places
 pub mod Rows

@@ -13,4 +13,4 @@ mod tests;
 
 pub use collector::Collector;
 pub use plan::{Plan, plan_dyad, plan_monad};
-pub use rows::{limit_laws, worked_assemblies, worked_plans};
+pub use rows::{limit_laws, placing_laws, worked_assemblies, worked_plans};

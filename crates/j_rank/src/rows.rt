@@ -1,12 +1,13 @@
 // Plans and assemblies worked out by hand.
-ghost use Rattle.std.specs.Prelude.{◌≡◌, [], ◌∷◌, true};
-ghost use Rattle.j_definitions.specs.Array.{Array, IsWithin};
+ghost use Rattle.std.specs.Prelude.{◌≡◌, ℕ, List, [], ◌∷◌, length, true};
+ghost use Rattle.j_definitions.specs.Array.{Array, Atom, product, IsWithin};
 ghost use Rattle.j_definitions.specs.Cells.{pairs};
 ghost use Rattle.j_definitions.specs.declared.Fault.TheVariants as fault;
 ghost use Rattle.j_noun.specs.declared.ranks.Rank.TheVariants.{Infinite as InfiniteRank};
 ghost use Rattle.j_rank.specs.Answers.{is_within};
-ghost use Rattle.j_rank.specs.Assembly.{assemble};
+ghost use Rattle.j_rank.specs.Assembly.{assemble, padded};
 ghost use Rattle.j_rank.specs.Cells.{frame_of, cell, cell_of_fills};
+ghost use Rattle.j_rank.specs.Places.{IsUnder, is_inside, atom_in};
 ghost use Rattle.j_rank.specs.Plans.{monad_plan, dyad_plan};
 ghost use Rattle.j_rank.specs.Rows.{numbers_in, bytes_in, rank, minus_rank};
 
@@ -48,4 +49,10 @@ pub fn worked_assemblies()
 pub fn limit_laws()
     ensures within { (a : Array) → IsWithin a.shape a.atoms → is_within a ≡ true }
     ensures is_within { (a : Array) → is_within a ≡ true → IsWithin a.shape a.atoms }
+{}
+
+/// Laws: padding keeps each atom at its indices, and fills stand at all others.
+#[tactic(auto, using(crate::proofs::Placing::padded_at))]
+pub fn placing_laws()
+    ensures { (z : Atom) (t s indices : List ℕ) (xs : List Atom) → IsUnder t s → length xs ≡ product t → is_inside s indices ≡ true → atom_in z s (padded z t s xs) indices ≡ atom_in z t xs indices }
 {}
