@@ -2,5 +2,10 @@
 #![tactic(auto)]
 
 mod names;
+mod rows;
 
 pub use names::Names;
+pub use rows::{name_laws, worked_rows};
+
+#[cfg(test)]
+mod tests;

@@ -1,5 +1,5 @@
 use Rattle.std.proofs.Common.{sym, ◌∙◌, true, false}
-use Rattle.j_names.proofs.Rows.{row_has, one_row}
+use Rattle.j_names.proofs.Search.{row_has, one_row}
 use Rattle.j_names.proofs.names.first_row.Goals as goal
 
 pub returns-then-matches : goal.returns-then-matches

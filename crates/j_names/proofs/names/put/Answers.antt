@@ -2,7 +2,7 @@ use Rattle.std.proofs.Common.{◌≡◌, [], ◌∷◌, ◌++◌, arith, sym, �
 use Rattle.std.proofs.lemmas.Result.{on_ok_weaker}
 use Rattle.j_names.specs.Kept.{kept}
 use Rattle.j_names.specs.declared.names.Row.{Row}
-use Rattle.j_names.proofs.Rows.{searched, none_found, not_found, none_held, found_within, kept_set, kept_push}
+use Rattle.j_names.proofs.Search.{searched, none_found, not_found, none_held, found_within, kept_set, kept_push}
 use Rattle.j_names.proofs.names.put.Goals as goal
 
 pub index_mut-requires : goal.index_mut-requires

@@ -1,7 +1,7 @@
 use Rattle.std.proofs.Common.{rules, sym, ◌∙◌, ap, option_map, Some}
 use Rattle.j_entity.specs.View.{entity_of}
 use Rattle.j_names.specs.declared.names.Row.{Row}
-use Rattle.j_names.proofs.Rows.{not_found, found_within, found_value}
+use Rattle.j_names.proofs.Search.{not_found, found_within, found_value}
 use Rattle.j_names.proofs.names.value_of.Goals as goal
 
 pub returns-in_err-i : goal.returns-in_err-i

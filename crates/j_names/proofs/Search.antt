@@ -25,7 +25,7 @@ tied Greater e = grind arith
 pub same_equal : (k l : List ℕ) → same k l ≡ true → k ≡ l
 same_equal k l e = slice_cmp-IsAntisymmetric nat_cmp-IsAntisymmetric k l (tied _ e)
 
-not_true : (b : Bool) → (b ≡ true → false ≡ true) → b ≡ false
+pub not_true : (b : Bool) → (b ≡ true → false ≡ true) → b ≡ false
 not_true true n = sym (n refl)
 not_true false n = refl
 
@@ -88,7 +88,7 @@ first_value k [] i d h = absurd h
 first_value k (r ∷ rs) zero d h = ap (λ b. cond b (Some (entity_of r.value)) (values k rs)) h
 first_value k (r ∷ rs) (suc i) d h = ap (λ b. cond b (Some (entity_of r.value)) (values k rs)) h.0 ∙ first_value k rs i d h.1
 
-shadowed : (b : Bool) (x y z : Option EntityTree) → cond b x z ≡ cond b x (cond b y z)
+pub shadowed : (b : Bool) (x y z : Option EntityTree) → cond b x z ≡ cond b x (cond b y z)
 shadowed true x y z = refl
 shadowed false x y z = refl
 
