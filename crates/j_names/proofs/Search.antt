@@ -1,5 +1,5 @@
 -- The first row with a base, and the map that rows stand for when it is changed.
-use Rattle.std.proofs.Common.{◌≡◌, ℕ, zero, suc, ◌+◌, ◌<◌, Bool, true, false, cond, IsTrue, List, [], ◌∷◌, ◌++◌, length, get_or, set, drop, map, Option, None, Some, is_some, refl, sym, ap, ◌∙◌, subst, arith, drop-cons, add-one}
+use Rattle.std.proofs.Common.{◌≡◌, ℕ, zero, suc, ◌+◌, ◌<◌, Bool, true, false, cond, IsTrue, List, [], ◌∷◌, ◌++◌, length, get_or, set, drop, map, Option, None, Some, refl, sym, ap, ◌∙◌, subst, arith, drop-cons, add-one}
 use Rattle.std.proofs.Common.{Ordering, Less, Equal, Greater}
 use Rattle.std.specs.Ordering.{nat_cmp, eq_by_cmp, is_eq}
 use Rattle.std.specs.Cmp.{tied_itself}
@@ -39,8 +39,8 @@ pub same_is : (b : Bool) (k l : List ℕ) → (IsTrue b → l ≡ k) → (l ≡ 
 same_is true k l there back = equal_same k l (there refl)
 same_is false k l there back = not_true _ (λ t. back (sym (same_equal k l t)))
 
-pub row_has : (b : Bool) (k l m : List ℕ) → m ≡ l → (IsTrue b → m ≡ k) × (m ≡ k → IsTrue b) → same k l ≡ b
-row_has b k l m e h = same_is b k l (λ t. sym e ∙ h.0 t) (λ t. h.1 (e ∙ t))
+pub row_has : (b : Bool) (k l : List ℕ) → (IsTrue b → l ≡ k) × (l ≡ k → IsTrue b) → same k l ≡ b
+row_has b k l h = same_is b k l h.0 h.1
 
 pub one_row : (b : Bool) (k : List ℕ) (rows : List Row) (i : ℕ) (r : Row) → i < length rows → r ≡ get_or rows i r → has_base k r ≡ b
     → position_from (has_base k) i (drop i rows) ≡ cond b (Some i) (position_from (has_base k) (i + 1) (drop (i + 1) rows))
@@ -120,18 +120,15 @@ entries_push : (rows : List Row) (r : Row) → map entry (rows ++ r ∷ []) ≡ 
 entries_push [] r = refl
 entries_push (x ∷ xs) r = ap (entry x ∷◌) (entries_push xs r)
 
-pub kept_push : (rows : List Row) (r : Row) → values r.name.base rows ≡ None → kept (rows ++ r ∷ []) ≡ insert (kept rows) r.name.base (entity_of r.value)
+pub kept_push : (rows : List Row) (r : Row) → get (kept rows) r.name.base ≡ None → kept (rows ++ r ∷ []) ≡ insert (kept rows) r.name.base (entity_of r.value)
 kept_push rows r none =
     ap from_entries (entries_push rows r)
-    ∙ from_entries_push nat_list_cmp_total (slice_cmp-IsAntisymmetric nat_cmp-IsAntisymmetric) (map entry rows) r.name.base (entity_of r.value) none
+    ∙ from_entries_push nat_list_cmp_total (slice_cmp-IsAntisymmetric nat_cmp-IsAntisymmetric) (map entry rows) r.name.base (entity_of r.value)
+    (sym (get-from_entries nat_list_cmp_total (map entry rows) r.name.base) ∙ none)
 
 -- what a search of the rows gave
-pub searched : (k name : List ℕ) (l rows : List Row) (o r : Option ℕ) → k ≡ name → l ≡ rows → o ≡ position_from (has_base k) 0 l → o ≡ r → position_from (has_base name) 0 rows ≡ r
-searched k name l rows o r same_name same_rows gave was =
-    ap (λ (n : List ℕ). position_from (has_base n) 0 rows) (sym same_name)
-    ∙ ap (position_from (has_base k) 0) (sym same_rows)
-    ∙ sym gave
-    ∙ was
+pub searched : (k : List ℕ) (l rows : List Row) (o r : Option ℕ) → l ≡ rows → o ≡ position_from (has_base k) 0 l → o ≡ r → position_from (has_base k) 0 rows ≡ r
+searched k l rows o r same_rows gave was = ap (position_from (has_base k) 0) (sym same_rows) ∙ sym gave ∙ was
 
 pub not_found : (k : List ℕ) (rows : List Row) → position_from (has_base k) 0 rows ≡ None → get (kept rows) k ≡ None
 not_found k rows e = get-from_entries nat_list_cmp_total (map entry rows) k ∙ none_found k 0 rows e
@@ -143,7 +140,3 @@ pub found_value : (k : List ℕ) (rows : List Row) (i : ℕ) (r : Row) → posit
 found_value k rows i r e is =
     ap (λ (x : Row). Some (entity_of x.value)) is
     ∙ sym (get-from_entries nat_list_cmp_total (map entry rows) k ∙ first_value k rows i r (first_at k rows i e))
-
-pub none_held : (o : Option EntityTree) → o ≡ None → is_some o ≡ true → ⊥
-none_held None e t = grind arith
-none_held (Some x) e t = not_None x e

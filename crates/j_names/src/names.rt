@@ -1,5 +1,5 @@
 // The names of a run, kept as a list of rows that nobody else sees.
-ghost use Rattle.std.specs.Prelude.{◌≡◌, ◌++◌, ◌∷◌, [], IfOk, IsOk, IsTrue, OnOk, OnErr, is_some, option_map};
+ghost use Rattle.std.specs.Prelude.{◌≡◌, ◌↔◌, None, IfSome, IfOk, IsOk, IsTrue, OnOk, OnErr, is_some, option_map};
 ghost use Rattle.std.specs.FinMap as map;
 ghost use Rattle.std.specs.List.{position_from};
 ghost use Rattle.j_entity.specs.View.{entity_of};
@@ -41,12 +41,18 @@ impl Model for Names {
     ghost view = { λ n. kept n.rows.items };
 }
 
+fn is_named(row: &Row, base: &Text) -> bool
+    ensures { IsTrue result ↔ (row.now.name.base ≡ base.now) }
+{
+    row.name.base().matches(base)
+}
+
 // The place of the first row whose name has this base.
 fn first_row(rows: &[Row], base: &Text) -> Option<usize>
     ensures { result ≡ position_from (has_base base.now) 0 rows.now }
 {
     for (i, row) in rows.iter().enumerate() {
-        if row.name.base().matches(base) {
+        if is_named(row, base) {
             return Some(i);
         }
     }
@@ -61,8 +67,24 @@ fn value_of<'a>(rows: &'a [Row], base: &Text) -> Option<&'a Entity>
     Some(&rows[i].value)
 }
 
+// A value in place of that of the first row with this base. It is handed back where there is none.
+fn replace(rows: &mut Vec<Row>, base: &Text, value: Entity) -> Option<Entity>
+    ensures done { result ≡ None → kept rows.new.items ≡ map.insert (kept rows.old.items) base.now (entity_of value) }
+    ensures new { IfSome result (λ v. (v ≡ value) × (map.get (kept rows.old.items) base.now ≡ None) × (rows.new.items ≡ rows.old.items)) }
+{
+    match first_row(rows, base) {
+        Some(i) => {
+            rows[i].value = value;
+            None
+        }
+        None => Some(value),
+    }
+}
+
+// A row for a name that has none.
 fn append(rows: &mut Vec<Row>, row: Row) -> Result<(), NoMemory>
-    ensures ok { OnOk result (rows.new.items ≡ rows.old.items ++ row ∷ []) }
+    requires { map.get (kept rows.old.items) row.name.base ≡ None }
+    ensures ok { OnOk result (kept rows.new.items ≡ map.insert (kept rows.old.items) row.name.base (entity_of row.value)) }
     ensures err { OnErr result (rows.new.items ≡ rows.old.items) }
 {
     match rows.push(row) {
@@ -71,17 +93,16 @@ fn append(rows: &mut Vec<Row>, row: Row) -> Result<(), NoMemory>
     }
 }
 
-// A value in place of that of the first row with this base, or in a row of its own where there is none.
+// The value of a name, in the row that it has or in a new one.
 fn put(rows: &mut Vec<Row>, name: Name, value: Entity) -> Result<(), NoMemory>
     ensures ok { OnOk result (kept rows.new.items ≡ map.insert (kept rows.old.items) name.base (entity_of value)) }
     ensures err { OnErr result (rows.new.items ≡ rows.old.items) }
     ensures again { IsTrue (map.contains_key (kept rows.old.items) name.base) → IsOk result }
 {
-    if let Some(i) = first_row(rows, name.base()) {
-        rows[i].value = value;
-        return Ok(());
+    match replace(rows, name.base(), value) {
+        None => Ok(()),
+        Some(value) => append(rows, Row { name, value }),
     }
-    append(rows, Row { name, value })
 }
 
 impl Names {
