@@ -219,6 +219,3 @@ coded_word = code_by (Packed Leaf) (coded_packed coded_leaf) word_code word_from
 
 abbrev pub coded_body : Coded BodyTree
 coded_body = code_by (Packed Leaf) (coded_packed coded_leaf) body_code body_from body_back
-
-abbrev pub coded_entity : Coded EntityTree
-coded_entity = code_by (Packed Leaf) (coded_packed coded_leaf) entity_code entity_from entity_back

@@ -1,3 +1,4 @@
+pub mod Coded
 pub mod Names
 pub mod Kept
 pub mod Rows

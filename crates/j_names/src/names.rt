@@ -29,7 +29,7 @@ impl Model for Names {
     ghost use Rattle.std.specs.Prelude.{ℕ};
     ghost use Rattle.std.specs.FinMap as map;
     ghost use Rattle.std.specs.Coded.{coded_list, coded_ℕ};
-    ghost use Rattle.j_entity.specs.Code.{coded_entity};
+    ghost use Rattle.j_names.specs.Coded.{coded_entity};
     ghost use Rattle.j_names.specs.Names.{NameMap};
 
     ghost Value = { NameMap };
