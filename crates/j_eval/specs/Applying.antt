@@ -3,7 +3,7 @@ use Rattle.std.specs.Prelude.{ℕ, ℤ, zero, suc, Bool, true, false, Option, So
 use Rattle.j_definitions.specs.Array.{Array, number, atom_array}
 use Rattle.j_definitions.specs.Scalars.{scalar_monad, scalar_dyad, monad_of, dyad_of}
 use Rattle.j_definitions.specs.declared.Fault.{Fault}
-use Rattle.j_definitions.specs.declared.Fault.TheVariants.{Domain, Nonce, Stack}
+use Rattle.j_definitions.specs.declared.Fault.TheVariants.{Domain, Nonce, Stack, Value}
 use Rattle.j_definitions.specs.declared.Kind.TheVariants.{Number}
 use Rattle.j_definitions.specs.declared.Scalar.{Scalar}
 use Rattle.j_definitions.specs.declared.Scalar.TheVariants.{Plus, Minus, Times}
@@ -12,13 +12,12 @@ use Rattle.j_leaves.specs.declared.primitive.Primitive.TheVariants as p
 use Rattle.j_leaves.specs.declared.modifier.Modifier.{Modifier}
 use Rattle.j_leaves.specs.declared.modifier.Modifier.TheVariants as m
 use Rattle.j_leaves.specs.Spelling.{constant}
-use Rattle.j_entity.specs.Tree.{VerbTree, primitive, named, fork, noun_fork, hook, derived, derived2, explicit, explicit1, explicit2, verb, noun, rank_list}
+use Rattle.j_leaves.specs.Names.{NameParts}
+use Rattle.j_names.specs.Names.{look}
+use Rattle.j_entity.specs.Tree.{VerbTree, EntityTree, a_noun, a_verb, an_adverb, a_conjunction, primitive, named, fork, noun_fork, hook, derived, derived2, explicit, explicit1, explicit2, verb, noun, rank_list}
 use Rattle.j_entity.specs.Heights.{verb_height}
-use Rattle.j_eval.specs.State.{Run, ◌>>=◌, fail, or_fault}
-
--- the left argument, if there is one, and the right one
-abbrev pub Doing : Type 0
-Doing = Option Array → Array → Run Array
+use Rattle.j_eval.specs.State.{Run, ◌>>=◌, fail, counted, or_fault}
+use Rattle.j_eval.specs.ByRank.{Doing, by_ranks}
 
 abbrev pub scalar : Scalar → Option Array → Array → Result Array Fault
 scalar v None y = scalar_monad (monad_of v) y
@@ -63,10 +62,29 @@ of_verbs c u v x y = fail Domain
 abbrev pub Calls : Type 0
 Calls = ℕ → VerbTree → Doing
 
--- A verb inside a call. The right part of a fork or hook comes first. Names and bodies aren't applied yet.
+-- a call of a verb
+abbrev pub call : Calls → VerbTree → Doing
+call calls v = calls (verb_height v) v
+
+-- the verb that a name holds
+abbrev pub verb_held : Option EntityTree → Result VerbTree Fault
+verb_held None = Err Value
+verb_held (Some (a_noun y)) = Err Value
+verb_held (Some (a_verb v)) = Ok v
+verb_held (Some (an_adverb a)) = Err Value
+verb_held (Some (a_conjunction c)) = Err Value
+
+abbrev pub verb_named : NameParts → Run VerbTree
+verb_named n s = or_fault (verb_held (look s.names n)) s
+
+-- A name on one cell or two: it is looked up, which is a step, and the verb that it holds then is called.
+abbrev pub named_cell : Calls → NameParts → Doing
+named_cell calls n x y = counted (verb_named n >>= (λ v. call calls v x y))
+
+-- A verb inside a call. The right part of a fork or hook comes first. A name has the ranks that it was moved with. Bodies aren't applied yet.
 abbrev pub apply : Calls → VerbTree → Doing
 apply calls (primitive v) x y = or_fault (word v x y)
-apply calls (named n r) x y = fail Nonce
+apply calls (named n r) x y = by_ranks r (named_cell calls n) x y
 apply calls (fork f g h) x y = do
   b ← apply calls h x y
   (if is_cap f then apply calls g None b else (apply calls f x y >>= (λ a. apply calls g (Some a) b)))
@@ -91,7 +109,3 @@ abbrev pub nested : ℕ → Calls
 nested zero h v x y = fail Stack
 nested (suc room) zero v x y = apply (nested room) v x y
 nested (suc room) (suc h) v x y = nested room h v x y
-
--- a call of a verb
-abbrev pub call : Calls → VerbTree → Doing
-call calls v = calls (verb_height v) v

@@ -1,8 +1,10 @@
 pub mod State
 pub mod Table
 pub mod Stack
+pub mod ByRank
 pub mod Applying
 pub mod Meaning
 pub mod Meets
 pub mod Machine
+pub mod Coded
 pub mod Rows

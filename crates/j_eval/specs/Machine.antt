@@ -11,6 +11,6 @@ readiness_of fitness.Exhausted = exhausted
 
 abbrev pub running_of : Inside → Running
 running_of m = record {
-  state = record { steps = m.steps; budget = m.budget; shown = m.shown.items };
+  state = record { steps = m.steps; budget = m.budget; shown = m.shown.items; names = m.names };
   readiness = readiness_of m.fitness;
 }

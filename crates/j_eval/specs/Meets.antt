@@ -1,16 +1,18 @@
 -- What the calls of a machine say of a run.
-use Rattle.std.specs.Prelude.{◌≡◌, ◌≤◌, ◌<◌, [], length, Result, Ok, Err}
+use Rattle.std.specs.Prelude.{◌≡◌, Bool, ◌≤◌, ◌<◌, [], length, Result, Ok, Err}
 use Rattle.std.specs.declared.alloc.Global.{Global}
 use Rattle.std.specs.declared.vec.Vec.{Vec}
 use Rattle.j_definitions.specs.Array.{Array}
 use Rattle.j_entity.specs.Tree.{EntityTree}
 use Rattle.j_entity.specs.View.{entity_of}
+use Rattle.j_entity.specs.declared.entity.Entity.{Entity}
 use Rattle.j_eval.specs.declared.outcome.Outcome.{Outcome as Answer}
 use Rattle.j_eval.specs.declared.outcome.Outcome.TheVariants as answer
 use Rattle.j_eval.specs.declared.outcome.Halt.{Halt}
 use Rattle.j_eval.specs.declared.outcome.Halt.TheVariants as halt
 use Rattle.j_eval.specs.declared.stack.Entry.{Entry}
 use Rattle.j_eval.specs.Stack.{Popped, stack_of}
+use Rattle.j_eval.specs.Meaning.{Given}
 use Rattle.j_eval.specs.State.{State, Outcome, Gave, Erred, Spent}
 
 -- what a machine is fit for
@@ -33,7 +35,7 @@ Answers answer.NoMemory m o = (m.readiness ≡ exhausted) × (m.state.shown ≡ 
 
 -- the machine with nothing shown
 abbrev pub quiet : Running → Running
-quiet m = record { state = record { steps = m.state.steps; budget = m.state.budget; shown = [] }; readiness = m.readiness }
+quiet m = record { state = record { steps = m.state.steps; budget = m.state.budget; shown = []; names = m.state.names }; readiness = m.readiness }
 
 -- A machine that is spent or exhausted answers the same from then on, and shows nothing.
 abbrev pub Stays : Readiness → Answer → Running → Running → Type 0
@@ -68,10 +70,16 @@ Meets r m o = MeetsAs (λ a. a) r m o
 abbrev pub MeetsAt : {A B : Type 0} → B → Result A Halt → Running → Outcome B → Type 0
 MeetsAt b r m o = MeetsAs (λ _. b) r m o
 
--- Steps are only counted up, and the budget stays.
+-- Steps are only counted up, and within a sentence nothing is shown, the budget stays, and so does what the machine is fit for.
 pub record Onward (m n : Running) : Type 0 where
   pub steps : m.state.steps ≤ n.state.steps
   pub budget : n.state.budget ≡ m.state.budget
+  pub shown : n.state.shown ≡ m.state.shown
+  pub readiness : n.readiness ≡ m.readiness
+
+-- what a sentence gives
+abbrev pub given_of : Entity × Bool → Given
+given_of g = (entity_of g.0, g.1)
 
 -- a value with a fact, or want of memory
 abbrev pub NoMemoryOr : {A : Type 0} → Result A Halt → (A → Type 0) → Type 0

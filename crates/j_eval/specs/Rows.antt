@@ -1,5 +1,6 @@
 -- Names for the sentences worked out by hand.
-use Rattle.std.specs.Prelude.{ℕ, ℤ, List, [], ◌∷◌, length, map}
+use Rattle.std.specs.Prelude.{ℕ, ℤ, List, [], ◌∷◌, length, map as mapped}
+use Rattle.std.specs.FinMap as map
 use Rattle.j_definitions.specs.Array.{Array, number, atom_array}
 use Rattle.j_definitions.specs.declared.Kind.TheVariants.{Number}
 use Rattle.j_leaves.specs.declared.primitive.Primitive.{Primitive}
@@ -14,7 +15,7 @@ abbrev pub atom : ℤ → Array
 atom n = atom_array Number (number n)
 
 abbrev pub list : List ℤ → Array
-list ns = record { kind = Number; shape = length ns ∷ []; atoms = map number ns }
+list ns = record { kind = Number; shape = length ns ∷ []; atoms = mapped number ns }
 
 -- words of sentences
 abbrev pub noun : Array → WordTree
@@ -37,7 +38,7 @@ at = entity (a_conjunction (modifier m.At))
 
 -- so many steps counted of a hundred, and bytes shown
 abbrev pub after : ℕ → List ℕ → State
-after steps shown = record { steps = steps; budget = 100; shown = shown }
+after steps shown = record { steps = steps; budget = 100; shown = shown; names = map.empty }
 
 -- a top sentence, before which no step was counted
 abbrev pub top_of : List WordTree → Outcome EntityTree

@@ -1,12 +1,16 @@
 -- The state of a run, and what runs give.
 use Rattle.std.specs.Prelude.{ℕ, ◌+◌, nat_lt, List, Result, Ok, Err, if◌then◌else◌}
 use Rattle.j_definitions.specs.declared.Fault.{Fault}
+use Rattle.j_entity.specs.Tree.{EntityTree}
+use Rattle.j_leaves.specs.Names.{NameParts}
+use Rattle.j_names.specs.Names.{NameMap, assign}
 
--- the steps counted, the most that there may be, and the bytes shown since the present top line began
+-- the steps counted, the most that there may be, the bytes shown since the present top line began, and the names
 pub record State : Type 0 where
   pub steps : ℕ
   pub budget : ℕ
   pub shown : List ℕ
+  pub names : NameMap
 
 -- how a run ends, with the state that it leaves
 pub data Outcome (A : Type 0) : Type 0 where
@@ -47,3 +51,7 @@ one_step = counted (pure tt)
 abbrev pub or_fault : {A : Type 0} → Result A Fault → Run A
 or_fault (Ok a) = pure a
 or_fault (Err f) = fail f
+
+-- a name is given what it holds
+abbrev pub set_name : NameParts → EntityTree → Run Unit0
+set_name n e s = Gave tt (record s { names = assign s.names n e })

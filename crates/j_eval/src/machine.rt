@@ -1,18 +1,22 @@
 // The machine that evaluates sentences.
-ghost use Rattle.std.specs.Prelude.{◌≡◌, ◌≢◌, ◌≤◌, ◌+◌, ◌<◌, [], length, map, Some, None, IfOk, OnOk, OnErr, IsErrOf};
+ghost use Rattle.std.specs.Prelude.{◌≡◌, ◌≢◌, ◌≤◌, [], length, map as mapped, Some, None, IfOk, option_map};
+ghost use Rattle.std.specs.FinMap as map;
 ghost use Rattle.std.specs.Option.{option_copied};
 ghost use Rattle.j_definitions.specs.Array.{Array};
 ghost use Rattle.j_entity.specs.Tree.{EntityTree};
 ghost use Rattle.j_entity.specs.View.{entity_of, word_of};
-ghost use Rattle.j_eval.specs.State.{Outcome as OutcomeOf, one_step};
-ghost use Rattle.j_eval.specs.Applying.{call, nested};
-ghost use Rattle.j_eval.specs.Meaning.{top, show, executed, most_levels};
+ghost use Rattle.j_names.specs.Names.{look};
+ghost use Rattle.j_eval.specs.State.{Outcome as OutcomeOf, one_step, set_name};
+ghost use Rattle.j_eval.specs.Applying.{call, nested, verb_named};
+ghost use Rattle.j_eval.specs.Meaning.{top, show, show_unless, executed, most_levels};
 ghost use Rattle.j_eval.specs.Meets.{Running, Answers, AnswersCall, Stays, StaysIn, Meets, MeetsAs, Onward, ready};
 
 use crate::outcome::{Halt, Outcome};
 use j_display as display;
 use j_entity::{Entity, Item, Prepared, Verb};
-use j_noun::{NoMemory, Noun, Refusal};
+use j_leaves::Name;
+use j_names::Names;
+use j_noun::{Fault, NoMemory, Noun, Refusal};
 use std::alloc::Global;
 use std::marker::Model;
 
@@ -41,12 +45,17 @@ pub struct Machine {
     steps: u64,
     fitness: Fitness,
     shown: Vec<u8>,
+    names: Names,
 }
 
 impl Model for Machine {
     ghost use Rattle.j_eval.specs.Meets.{Running};
 
+    ghost use Rattle.j_eval.specs.Coded.{coded_running};
+
     ghost Value = { Running };
+
+    ghost coded = { coded_running };
 
     ghost use Rattle.j_eval.specs.Machine.{running_of};
 
@@ -56,14 +65,16 @@ impl Model for Machine {
 impl Machine {
     /// A machine that has counted no step and may count `budget` of them.
     pub fn new(alloc: Global, budget: u64) -> Result<Machine, NoMemory>
-        ensures { IfOk result (λ m. m ≡ record { state = record { steps = 0; budget = budget; shown = [] }; readiness = ready }) }
+        ensures { IfOk result (λ m. m ≡ record { state = record { steps = 0; budget = budget; shown = []; names = map.empty }; readiness = ready }) }
     {
+        let names = Names::new(alloc)?;
         Ok(Machine {
             alloc,
             budget,
             steps: 0,
             fitness: Fitness::Ready,
             shown: Vec::new(alloc),
+            names,
         })
     }
 
@@ -87,8 +98,6 @@ impl Machine {
         ensures answer { self.old.readiness ≡ ready → Answers result self.new (top s.now self.old.state) }
         ensures stays { Stays self.old.readiness result self.old self.new }
         ensures budget { self.new.state.budget ≡ self.old.state.budget }
-        ensures steps { self.new.state.steps ≤ self.old.state.steps + length s.now + 1 }
-        ensures unspent { self.old.readiness ≡ ready → self.old.state.steps + length s.now + 1 ≤ self.old.state.budget → result ≢ Outcome.Spent }
     {
         self.shown.clear();
         match self.fitness {
@@ -106,8 +115,6 @@ impl Machine {
         requires { self.old.readiness ≡ ready }
         ensures answer { (o : OutcomeOf EntityTree) → MeetsAs entity_of outcome self.old o → Answers result self.new o }
         ensures budget { self.new.state.budget ≡ self.old.state.budget }
-        ensures steps { self.new.state.steps ≡ self.old.state.steps }
-        ensures spent { result ≡ Outcome.Spent → IsErrOf outcome Halt.Spent }
     {
         match outcome {
             Ok(e) => Outcome::Value(e),
@@ -171,29 +178,60 @@ impl Machine {
     // Evaluates a sentence and shows its value.
     fn execute(&mut self, items: &[Item]) -> Result<Entity, Halt>
         requires { length self.old.state.shown ≤ 67108864 }
-        ensures gives { MeetsAs entity_of result self.new (executed (nested most_levels) (map word_of items.now) self.old.state) }
+        ensures gives { MeetsAs entity_of result self.new (executed (nested most_levels) (mapped word_of items.now) self.old.state) }
         ensures budget { self.new.state.budget ≡ self.old.state.budget }
-        ensures most { self.new.state.steps ≤ self.old.state.steps + length items.now + 1 }
-        ensures spent { IsErrOf result Halt.Spent → self.old.state.budget < self.old.state.steps + length items.now + 1 }
         ensures readiness { self.new.readiness ≡ self.old.readiness }
     {
-        let e = self.evaluate(most_levels(), items)?;
-        self.show(&e)?;
+        let (e, quiet) = self.evaluate(most_levels(), items)?;
+        self.show_unless(quiet, &e)?;
         Ok(e)
+    }
+
+    // Shows a value, unless it is assigned.
+    fn show_unless(&mut self, quiet: bool, e: &Entity) -> Result<(), Halt>
+        requires { length self.old.state.shown ≤ 67108864 }
+        ensures gives { Meets result self.new (show_unless quiet (entity_of e.now) self.old.state) }
+        ensures budget { self.new.state.budget ≡ self.old.state.budget }
+        ensures readiness { self.new.readiness ≡ self.old.readiness }
+    {
+        if quiet { Ok(()) } else { self.show(e) }
     }
 
     pub(crate) fn alloc(&self) -> Global {
         self.alloc
     }
 
+    // What a name holds.
+    pub(crate) fn held(&self, name: &Name) -> Option<&Entity>
+        ensures { option_map (λ e. entity_of e.now) result ≡ look self.now.state.names name.now }
+    {
+        self.names.get(name)
+    }
+
+    // The verb that a name holds.
+    pub(crate) fn verb_named(&self, name: &Name) -> Result<Verb, Halt>
+        ensures { Meets result self.now (verb_named name.now self.now.state) }
+    {
+        match self.held(name) {
+            Some(Entity::Verb(v)) => Ok(v.duplicate()?),
+            Some(Entity::Noun(_) | Entity::Adverb(_) | Entity::Conjunction(_)) | None => {
+                Err(Halt::Failed(Fault::Value))
+            }
+        }
+    }
+
+    // Gives a name what it holds.
+    pub(crate) fn set_name(&mut self, name: Name, e: Entity) -> Result<(), Halt>
+        ensures gives { Meets result self.new (set_name name (entity_of e) self.old.state) }
+        ensures onward { Onward self.old self.new }
+    {
+        Ok(self.names.set(name, e)?)
+    }
+
     // Counts a step.
     pub(crate) fn tick(&mut self) -> Result<(), Halt>
         ensures gives { Meets result self.new (one_step self.old.state) }
         ensures onward { Onward self.old self.new }
-        ensures counted { OnOk result (self.new.state.steps ≡ self.old.state.steps + 1) }
-        ensures spent { OnErr result ((self.new ≡ self.old) × (self.old.state.budget ≤ self.old.state.steps)) }
-        ensures shown { self.new.state.shown ≡ self.old.state.shown }
-        ensures readiness { self.new.readiness ≡ self.old.readiness }
     {
         if self.steps < self.budget {
             self.steps += 1;
@@ -208,8 +246,6 @@ impl Machine {
         requires { length self.old.state.shown ≤ 67108864 }
         ensures gives { Meets result self.new (show (entity_of e.now) self.old.state) }
         ensures budget { self.new.state.budget ≡ self.old.state.budget }
-        ensures steps { self.new.state.steps ≡ self.old.state.steps }
-        ensures unspent { IsErrOf result Halt.Spent → ⊥ }
         ensures readiness { self.new.readiness ≡ self.old.readiness }
     {
         let room = MOST_SHOWN - self.shown.len();

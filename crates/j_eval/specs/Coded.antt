@@ -1,0 +1,36 @@
+-- How the logic stores a machine.
+use Rattle.std.specs.Prelude.{◌≡◌, ℕ, List, refl, ap}
+use Rattle.std.specs.Coded.{Coded, code_by, coded×, coded_list, coded_ℕ}
+use Rattle.std.specs.FinMap as map
+use Rattle.j_names.specs.Coded.{coded_entity}
+use Rattle.j_names.specs.Names.{NameMap}
+use Rattle.j_eval.specs.Meets.{Readiness, ready, spent, exhausted, Running}
+
+abbrev pub readiness_number : Readiness → ℕ
+readiness_number ready = 0
+readiness_number spent = 1
+readiness_number exhausted = 2
+
+abbrev pub readiness_from : ℕ → Readiness
+readiness_from zero = ready
+readiness_from (suc zero) = spent
+readiness_from (suc (suc n)) = exhausted
+
+pub readiness_back : (r : Readiness) → readiness_from (readiness_number r) ≡ r
+readiness_back ready = refl
+readiness_back spent = refl
+readiness_back exhausted = refl
+
+abbrev pub running_code : Running → ℕ × (ℕ × (List ℕ × (NameMap × ℕ)))
+running_code m = (m.state.steps, (m.state.budget, (m.state.shown, (m.state.names, readiness_number m.readiness))))
+
+abbrev pub running_from : ℕ × (ℕ × (List ℕ × (NameMap × ℕ))) → Running
+running_from p = record {
+  state = record { steps = p.0; budget = p.1.0; shown = p.1.1.0; names = p.1.1.1.0 };
+  readiness = readiness_from p.1.1.1.1;
+}
+
+abbrev pub coded_running : Coded Running
+coded_running =
+    code_by (ℕ × (ℕ × (List ℕ × (NameMap × ℕ)))) (coded× coded_ℕ (coded× coded_ℕ (coded× (coded_list coded_ℕ) (coded× (map.code (coded_list coded_ℕ) coded_entity) coded_ℕ))))
+    running_code running_from (λ m. ap (λ r. record { state = m.state; readiness = r }) (readiness_back m.readiness))
