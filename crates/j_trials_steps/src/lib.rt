@@ -1,0 +1,7 @@
+//! The tests of what stands below the top call: steps, calls of verbs, and what is formed.
+#![tactic(auto)]
+
+#[cfg(test)]
+mod formed;
+#[cfg(test)]
+mod steps;
