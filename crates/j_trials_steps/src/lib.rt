@@ -4,4 +4,6 @@
 #[cfg(test)]
 mod formed;
 #[cfg(test)]
+mod names;
+#[cfg(test)]
 mod steps;
