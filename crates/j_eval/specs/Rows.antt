@@ -40,6 +40,10 @@ at = entity (a_conjunction (modifier m.At))
 abbrev pub after : ℕ → List ℕ → State
 after steps shown = record { steps = steps; budget = 100; shown = shown; names = map.empty }
 
+-- so many steps counted of a budget, without names
+abbrev pub within : ℕ → ℕ → State
+within budget steps = record { steps = steps; budget = budget; shown = []; names = map.empty }
+
 -- a top sentence, before which no step was counted
 abbrev pub top_of : List WordTree → Outcome EntityTree
 top_of words = top words (after 0 [])

@@ -10,7 +10,7 @@ ghost use Rattle.j_eval.specs.State.{State, Gave, Erred, Spent};
 ghost use Rattle.j_eval.specs.Applying.{call, nested};
 ghost use Rattle.j_eval.specs.Table.{row_at};
 ghost use Rattle.j_eval.specs.Meaning.{top};
-ghost use Rattle.j_eval.specs.Rows.{atom, list, noun, verb, plus, minus, times, at, after, top_of, gave};
+ghost use Rattle.j_eval.specs.Rows.{atom, list, noun, verb, plus, minus, times, at, within, after, top_of, gave};
 
 /// Laws: which row four entries match, worked out by hand.
 pub fn table_rows()
@@ -49,7 +49,7 @@ pub fn worked_rows()
     ensures number_assigned { top_of (noun (atom (pos 5)) ∷ global_copula ∷ noun (atom (pos 3)) ∷ []) ≡ Erred fault.Domain (after 2 []) }
     ensures verb_last { top_of (noun (atom (pos 5)) ∷ plus ∷ []) ≡ Erred fault.Syntax (after 2 []) }
     ensures unclosed { top_of (open_mark ∷ noun (atom (pos 5)) ∷ []) ≡ Erred fault.Syntax (after 1 []) }
-    ensures spent { top (minus ∷ minus ∷ noun (atom (pos 5)) ∷ []) (record { steps = 0; budget = 2; shown = [] }) ≡ Spent (record { steps = 2; budget = 2; shown = [] }) }
+    ensures spent { top (minus ∷ minus ∷ noun (atom (pos 5)) ∷ []) (within 2 0) ≡ Spent (within 2 2) }
     ensures enough_levels { (s : State) → call (nested 2) (hook (primitive p.Plus) (primitive p.Times)) None (atom (pos 3)) s ≡ Gave (atom (pos 4)) s }
     ensures too_few_levels { (s : State) → call (nested 1) (hook (primitive p.Plus) (primitive p.Times)) None (atom (pos 3)) s ≡ Erred fault.Stack s }
 {}
