@@ -26,7 +26,7 @@ running_from p = record {
   readiness = readiness_from p.1.1.1.1;
 }
 
-running_back : (s : State) (r : Readiness) → running_from (running_code (record { state = s; readiness = r })) ≡ record { state = s; readiness = r }
+pub running_back : (s : State) (r : Readiness) → running_from (running_code (record { state = s; readiness = r })) ≡ record { state = s; readiness = r }
 running_back s ready = refl
 running_back s spent = refl
 running_back s exhausted = refl
