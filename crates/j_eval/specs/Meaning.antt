@@ -181,12 +181,16 @@ valued quiet (a_verb v) s = if no_value s.names v then Erred Value s else Gave (
 valued quiet (an_adverb a) s = Gave (an_adverb a, quiet) s
 valued quiet (a_conjunction c) s = Gave (a_conjunction c, quiet) s
 
+abbrev pub only : Bool → WordTree → Result EntityTree Fault
+only true w = entity_in w
+only false w = Err Syntax
+
 -- At the end the stack is the start mark and one entity.
 abbrev pub finished : Bool → List Slot → Run Given
 finished quiet es = do
   m ← or_fault (popped es)
   w ← or_fault (popped_word m.1)
-  e ← or_fault (if is_start (kind_of m.0) && is_nil w.1 then entity_in w.0 else Err Syntax)
+  e ← or_fault (only (is_start (kind_of m.0) && is_nil w.1) w.0)
   valued quiet e
 
 -- The first row that matches is executed; where none does, the next entry is moved from the queue. The number bounds how often.

@@ -1,17 +1,16 @@
 // The sentences of a run: the parsing table is run over a queue and a stack.
-ghost use Rattle.std.specs.Prelude.{◌≡◌, ◌+◌, ◌<◌, ◌∷◌, ◌&&◌, length, map, OnOk, Err, Result as ResultOf, if◌then◌else◌};
+ghost use Rattle.std.specs.Prelude.{◌≡◌, ◌+◌, ◌<◌, ◌∷◌, length, map, OnOk, Result as ResultOf};
 ghost use Rattle.j_definitions.specs.declared.Fault.{Fault as FaultValue};
-ghost use Rattle.j_definitions.specs.declared.Fault.TheVariants.{Syntax};
 ghost use Rattle.j_names.specs.Names.{look};
 ghost use Rattle.j_entity.specs.Tree.{EntityTree, VerbTree, a_verb, named};
 ghost use Rattle.j_entity.specs.View.{entity_of, word_of};
 ghost use Rattle.j_trains.specs.Formed.{IsFormed, IsFormedVerb};
-ghost use Rattle.j_eval.specs.State.{or_fault};
+ghost use Rattle.j_eval.specs.State.{or_fault, ◌>>=◌};
 ghost use Rattle.j_eval.specs.Applying.{Calls, nested};
 ghost use Rattle.j_eval.specs.Stack.{stack_of, slot_of};
-ghost use Rattle.j_eval.specs.Table.{Word, kind_of, is_start};
+ghost use Rattle.j_eval.specs.Table.{Word};
 ghost use Rattle.j_eval.specs.declared.stack.Row.TheVariants as row;
-ghost use Rattle.j_eval.specs.Meaning.{ranked, entity_bident, bident_words, assigned, reduced, entity_in, is_nil, is_assignment, name_moved, word_moved, moved, no_value, valued, finished, sentence};
+ghost use Rattle.j_eval.specs.Meaning.{ranked, entity_bident, bident_words, assigned, reduced, entity_in, is_nil, is_assignment, name_moved, word_moved, moved, no_value, valued, only, finished, sentence};
 ghost use Rattle.j_eval.specs.Meets.{Running, Meets, MeetsAs, MeetsAt, NoMemoryOr, Onward, given_of};
 
 use crate::machine::Machine;
@@ -108,17 +107,6 @@ fn entity_in(word: Item) -> Result<Entity, Halt>
     }
 }
 
-// The one word of a stack that holds the start mark and it alone.
-fn only_word(mark: &Entry, word: Item, rest: &[Entry]) -> Result<Entity, Halt>
-    ensures { (m : Running) → MeetsAs entity_of result m (or_fault (if is_start (kind_of (slot_of mark.now)) && is_nil (stack_of rest.now) then entity_in (word_of word) else Err Syntax) m.state) }
-{
-    if is_start(kind_of(mark)) && rest.is_empty() {
-        entity_in(word)
-    } else {
-        Err(Halt::Failed(Fault::Syntax))
-    }
-}
-
 // The verb that a name is, with these ranks.
 fn name_verb(alloc: Global, name: &Name, ranks: Ranks) -> Result<Entity, Halt>
     ensures { NoMemoryOr result (λ e. entity_of e ≡ a_verb (named name.now ranks)) }
@@ -170,14 +158,26 @@ impl Machine {
         }
     }
 
+    // What a sentence gives whose last word stands alone.
+    fn only(&self, alone: bool, quiet: bool, word: Item) -> Result<(Entity, bool), Halt>
+        ensures { MeetsAs given_of result self.now ((or_fault (only alone (word_of word)) >>= valued quiet) self.now.state) }
+    {
+        if alone {
+            let e = entity_in(word)?;
+            self.valued(quiet, e)
+        } else {
+            Err(Halt::Failed(Fault::Syntax))
+        }
+    }
+
     // At the end the stack is the start mark and one entity.
     fn finished(&self, quiet: bool, mut stack: Vec<Entry>) -> Result<(Entity, bool), Halt>
         ensures { MeetsAs given_of result self.now (finished quiet (stack_of stack.items) self.now.state) }
     {
         let mark = pop(&mut stack)?;
         let word = pop_word(&mut stack)?;
-        let e = only_word(&mark, word, &stack)?;
-        self.valued(quiet, e)
+        let alone = is_start(kind_of(&mark)) && stack.is_empty();
+        self.only(alone, quiet, word)
     }
 
     // What a name becomes when it is moved.

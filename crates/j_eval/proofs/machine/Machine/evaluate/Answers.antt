@@ -4,7 +4,7 @@ use Rattle.j_entity.specs.View.{word_of}
 use Rattle.j_eval.specs.Applying.{nested}
 use Rattle.j_eval.specs.Table.{row_of}
 use Rattle.j_eval.specs.Stack.{stack_of, slot_of}
-use Rattle.j_eval.specs.Meaning.{sentence}
+use Rattle.j_eval.specs.Meaning.{parsed, sentence}
 use Rattle.j_eval.specs.Meets.{MeetsAs, given_of}
 use Rattle.j_eval.proofs.Sentences.{queue_rest, marks, tick_err, reduce_more, reduce_err, item_more, mark_more, queue_end, row_long, still_open}
 use Rattle.j_eval.proofs.machine.Machine.evaluate.Goals as goal
@@ -17,8 +17,8 @@ returns-in_err-tick-2-clause-gives c =
     (sentence (nested c.args.room) (map word_of c.args.items.now) c.args.self.now.state) (omega (arith, v.enough)) is v.same c.in_err-tick-2.ensures.gives in
     search rules
 
-pub turns-preserved-in_ok-reduce : goal.turns-preserved-in_ok-reduce
-turns-preserved-in_ok-reduce c =
+pub turns-preserved-in-Some : goal.turns-preserved-in-Some
+turns-preserved-in-Some c =
     let v = c.turns.invariant in
     let is : row_of (stack_of c.turns.stack.items) ≡ Some c.in-Some.row = search rules in
     let more = reduce_more (nested c.args.room) c.turns.quiet (queue_rest c.turns.started (map word_of c.turns.left.now)) (stack_of c.turns.stack.items) c.turns.self.state v.bound c.in-Some.row (stack_of c.reduce.new.stack.items)
@@ -26,7 +26,7 @@ turns-preserved-in_ok-reduce c =
     record {
       bound = v.bound - 1;
       enough = omega (arith, v.enough, c.in_ok-reduce.ensures.shorter.1);
-      same = sym more ∙ v.same;
+      same = ap (λ q. parsed (v.bound - 1) (nested c.args.room) q (queue_rest c.turns.started (map word_of c.turns.left.now)) (stack_of c.reduce.new.stack.items) c.reduce.new.self.state) c.is_assignment.ensures ∙ sym more ∙ v.same;
       ended = λ e. ((v.ended e).0, c.in_ok-reduce.ensures.shorter.0);
       onward = search rules;
     }
@@ -79,5 +79,5 @@ returns-else-not-started-clause-gives c =
     let none : row_of (stack_of c.turns.stack.items) ≡ None = search rules in
     let started : c.turns.started ≡ true = search rules in
     let end = queue_end (nested c.args.room) c.turns.quiet c.turns.started (map word_of c.turns.left.now) (stack_of c.turns.stack.items) c.turns.self.state v.bound started (omega (arith, v.enough)) none in
-    subst (MeetsAs given_of c.finished.result c.turns.self) (sym end ∙ v.same) c.finished.ensures.gives
+    subst (MeetsAs given_of c.finished.result c.turns.self) (sym end ∙ v.same) c.finished.ensures
 
