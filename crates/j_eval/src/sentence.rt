@@ -5,12 +5,12 @@ ghost use Rattle.j_names.specs.Names.{look};
 ghost use Rattle.j_entity.specs.Tree.{EntityTree, VerbTree, a_verb, named};
 ghost use Rattle.j_entity.specs.View.{entity_of, word_of};
 ghost use Rattle.j_trains.specs.Formed.{IsFormed, IsFormedVerb};
-ghost use Rattle.j_eval.specs.State.{or_fault, ◌>>=◌};
+ghost use Rattle.j_eval.specs.State.{or_fault};
 ghost use Rattle.j_eval.specs.Applying.{Calls, nested};
 ghost use Rattle.j_eval.specs.Stack.{stack_of, slot_of};
 ghost use Rattle.j_eval.specs.Table.{Word};
 ghost use Rattle.j_eval.specs.declared.stack.Row.TheVariants as row;
-ghost use Rattle.j_eval.specs.Meaning.{ranked, entity_bident, bident_words, assigned, reduced, entity_in, is_nil, is_assignment, name_moved, word_moved, moved, no_value, valued, only, finished, sentence};
+ghost use Rattle.j_eval.specs.Meaning.{ranked, entity_bident, bident_words, assigned, reduced, entity_in, is_nil, is_assignment, name_moved, word_moved, moved, no_value, valued, ended, finished, sentence};
 ghost use Rattle.j_eval.specs.Meets.{Running, Meets, MeetsAs, MeetsAt, NoMemoryOr, Onward, given_of};
 
 use crate::machine::Machine;
@@ -158,9 +158,9 @@ impl Machine {
         }
     }
 
-    // What a sentence gives whose last word stands alone.
-    fn only(&self, alone: bool, quiet: bool, word: Item) -> Result<(Entity, bool), Halt>
-        ensures { MeetsAs given_of result self.now ((or_fault (only alone (word_of word)) >>= valued quiet) self.now.state) }
+    // What a sentence gives by its last word, where it stands alone.
+    fn ended(&self, quiet: bool, alone: bool, word: Item) -> Result<(Entity, bool), Halt>
+        ensures { MeetsAs given_of result self.now (ended quiet alone (word_of word) self.now.state) }
     {
         if alone {
             let e = entity_in(word)?;
@@ -177,7 +177,7 @@ impl Machine {
         let mark = pop(&mut stack)?;
         let word = pop_word(&mut stack)?;
         let alone = is_start(kind_of(&mark)) && stack.is_empty();
-        self.only(alone, quiet, word)
+        self.ended(quiet, alone, word)
     }
 
     // What a name becomes when it is moved.
