@@ -26,7 +26,7 @@ turns-preserved-in-Some c =
     record {
       bound = v.bound - 1;
       enough = omega (arith, v.enough, c.in_ok-reduce.ensures.shorter.1);
-      same = ap (λ q. parsed (v.bound - 1) (nested c.args.room) q (queue_rest c.turns.started (map word_of c.turns.left.now)) (stack_of c.reduce.new.stack.items) c.reduce.new.self.state) c.is_assignment.ensures ∙ sym more ∙ v.same;
+      same = ap (λ q. parsed (v.bound - 1) (nested c.args.room) q (queue_rest c.turns.started (map word_of c.turns.left.now)) (stack_of c.reduce.new.stack.items) c.reduce.new.self.state) c.is_assignment-quiet.ensures ∙ sym more ∙ v.same;
       ended = λ e. ((v.ended e).0, c.in_ok-reduce.ensures.shorter.0);
       onward = search rules;
     }
