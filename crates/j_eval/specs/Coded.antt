@@ -1,10 +1,11 @@
 -- How the logic stores a machine.
-use Rattle.std.specs.Prelude.{◌≡◌, ℕ, List, refl, ap}
+use Rattle.std.specs.Prelude.{◌≡◌, ℕ, zero, suc, List, refl}
 use Rattle.std.specs.Coded.{Coded, code_by, coded×, coded_list, coded_ℕ}
 use Rattle.std.specs.FinMap as map
 use Rattle.j_names.specs.Coded.{coded_entity}
 use Rattle.j_names.specs.Names.{NameMap}
 use Rattle.j_eval.specs.Meets.{Readiness, ready, spent, exhausted, Running}
+use Rattle.j_eval.specs.State.{State}
 
 abbrev pub readiness_number : Readiness → ℕ
 readiness_number ready = 0
@@ -16,11 +17,6 @@ readiness_from zero = ready
 readiness_from (suc zero) = spent
 readiness_from (suc (suc n)) = exhausted
 
-pub readiness_back : (r : Readiness) → readiness_from (readiness_number r) ≡ r
-readiness_back ready = refl
-readiness_back spent = refl
-readiness_back exhausted = refl
-
 abbrev pub running_code : Running → ℕ × (ℕ × (List ℕ × (NameMap × ℕ)))
 running_code m = (m.state.steps, (m.state.budget, (m.state.shown, (m.state.names, readiness_number m.readiness))))
 
@@ -30,7 +26,12 @@ running_from p = record {
   readiness = readiness_from p.1.1.1.1;
 }
 
+pub running_back : (s : State) (r : Readiness) → running_from (running_code (record { state = s; readiness = r })) ≡ record { state = s; readiness = r }
+running_back s ready = refl
+running_back s spent = refl
+running_back s exhausted = refl
+
 abbrev pub coded_running : Coded Running
 coded_running =
     code_by (ℕ × (ℕ × (List ℕ × (NameMap × ℕ)))) (coded× coded_ℕ (coded× coded_ℕ (coded× (coded_list coded_ℕ) (coded× (map.code (coded_list coded_ℕ) coded_entity) coded_ℕ))))
-    running_code running_from (λ m. ap (λ r. record { state = m.state; readiness = r }) (readiness_back m.readiness))
+    running_code running_from (λ m. running_back m.state m.readiness)

@@ -181,13 +181,17 @@ valued quiet (a_verb v) s = if no_value s.names v then Erred Value s else Gave (
 valued quiet (an_adverb a) s = Gave (an_adverb a, quiet) s
 valued quiet (a_conjunction c) s = Gave (a_conjunction c, quiet) s
 
+-- what a sentence gives by its last word, where that stands alone
+abbrev pub ended : Bool → Bool → WordTree → Run Given
+ended quiet true w = or_fault (entity_in w) >>= valued quiet
+ended quiet false w = fail Syntax
+
 -- At the end the stack is the start mark and one entity.
 abbrev pub finished : Bool → List Slot → Run Given
 finished quiet es = do
   m ← or_fault (popped es)
   w ← or_fault (popped_word m.1)
-  e ← or_fault (if is_start (kind_of m.0) && is_nil w.1 then entity_in w.0 else Err Syntax)
-  valued quiet e
+  ended quiet (is_start (kind_of m.0) && is_nil w.1) w.0
 
 -- The first row that matches is executed; where none does, the next entry is moved from the queue. The number bounds how often.
 abbrev pub parsed : ℕ → Calls → Bool → List Slot → List Slot → Run Given

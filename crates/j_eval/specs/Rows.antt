@@ -6,6 +6,8 @@ use Rattle.j_definitions.specs.declared.Kind.TheVariants.{Number}
 use Rattle.j_leaves.specs.declared.primitive.Primitive.{Primitive}
 use Rattle.j_leaves.specs.declared.primitive.Primitive.TheVariants as p
 use Rattle.j_leaves.specs.declared.modifier.Modifier.TheVariants as m
+use Rattle.j_names.specs.Names.{NameMap, assign}
+use Rattle.j_names.specs.Rows.{f}
 use Rattle.j_entity.specs.Tree.{EntityTree, WordTree, primitive, modifier, a_noun, a_verb, a_conjunction, entity}
 use Rattle.j_eval.specs.State.{State, Outcome, Gave}
 use Rattle.j_eval.specs.Meaning.{top}
@@ -40,6 +42,10 @@ at = entity (a_conjunction (modifier m.At))
 abbrev pub after : ℕ → List ℕ → State
 after steps shown = record { steps = steps; budget = 100; shown = shown; names = map.empty }
 
+-- so many steps counted of a budget, without names
+abbrev pub within : ℕ → ℕ → State
+within budget steps = record { steps = steps; budget = budget; shown = []; names = map.empty }
+
 -- a top sentence, before which no step was counted
 abbrev pub top_of : List WordTree → Outcome EntityTree
 top_of words = top words (after 0 [])
@@ -47,3 +53,11 @@ top_of words = top words (after 0 [])
 -- a value, after so many steps, and what it shows
 abbrev pub gave : EntityTree → ℕ → List ℕ → Outcome EntityTree
 gave e steps shown = Gave e (after steps shown)
+
+-- the one name f holds this
+abbrev pub f_is : EntityTree → NameMap
+f_is e = assign map.empty f e
+
+-- so many steps counted of a hundred, bytes shown, and names
+abbrev pub knowing : NameMap → ℕ → List ℕ → State
+knowing names steps shown = record { steps = steps; budget = 100; shown = shown; names = names }

@@ -9,7 +9,7 @@ ghost use Rattle.j_entity.specs.View.{operand_of};
 ghost use Rattle.j_entity.specs.Heights.{verb_height};
 ghost use Rattle.j_eval.specs.Applying.{apply, call, nested};
 ghost use Rattle.j_eval.specs.State.{or_fault};
-ghost use Rattle.j_eval.specs.Meets.{Running, Meets};
+ghost use Rattle.j_eval.specs.Meets.{Running, Meets, Onward};
 
 use crate::machine::Machine;
 use crate::outcome::Halt;
@@ -48,8 +48,7 @@ impl Machine {
         y: &Noun,
     ) -> Result<Noun, Halt>
         ensures gives { Meets result self.new (call (nested room) v.now (option_copied x.entry) y.now self.old.state) }
-        ensures unspent { IsErrOf result Halt.Spent → ⊥ }
-        ensures same { self.new ≡ self.old }
+        ensures onward { Onward self.old self.new }
     {
         match levels_below(room, v) {
             Some(below) => self.apply(below, v, x, y),
@@ -61,8 +60,7 @@ impl Machine {
     #[cycle(eval)]
     fn apply(&mut self, room: u32, v: &Verb, x: Option<&Noun>, y: &Noun) -> Result<Noun, Halt>
         ensures gives { Meets result self.new (apply (nested room) v.now (option_copied x.entry) y.now self.old.state) }
-        ensures unspent { IsErrOf result Halt.Spent → ⊥ }
-        ensures same { self.new ≡ self.old }
+        ensures onward { Onward self.old self.new }
     {
         match v.tree() {
             Tree::Primitive(v) => answered(word(self.alloc(), v, x, y)),
@@ -96,8 +94,7 @@ impl Machine {
         y: &Noun,
     ) -> Result<Noun, Halt>
         ensures gives { Meets result self.new (apply (nested room) (fork f.now g.now h.now) (option_copied x.entry) y.now self.old.state) }
-        ensures unspent { IsErrOf result Halt.Spent → ⊥ }
-        ensures same { self.new ≡ self.old }
+        ensures onward { Onward self.old self.new }
     {
         let right = self.apply(room, h, x, y)?;
         if is_cap(f) {
@@ -119,8 +116,7 @@ impl Machine {
         y: &Noun,
     ) -> Result<Noun, Halt>
         ensures gives { Meets result self.new (apply (nested room) (derived2 c (operand_of u.now) (operand_of v.now)) (option_copied x.entry) y.now self.old.state) }
-        ensures unspent { IsErrOf result Halt.Spent → ⊥ }
-        ensures same { self.new ≡ self.old }
+        ensures onward { Onward self.old self.new }
     {
         match (c, u, v) {
             (Modifier::At, Operand::Verb(u), Operand::Verb(v)) => {

@@ -13,4 +13,4 @@ pub use j_entity::{Entity, Prepared};
 pub use j_explicit::{LineFault, prepare};
 pub use machine::Machine;
 pub use outcome::{Halt, Outcome};
-pub use rows::{table_rows, worked_rows};
+pub use rows::{name_rows, table_rows, worked_rows};

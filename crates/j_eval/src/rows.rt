@@ -2,7 +2,9 @@
 ghost use Rattle.std.specs.Prelude.{◌≡◌, ◌++◌, ◌∷◌, [], Some, None, codes, pos, negsuc};
 ghost use Rattle.j_definitions.specs.declared.Fault.TheVariants as fault;
 ghost use Rattle.j_leaves.specs.declared.primitive.Primitive.TheVariants as p;
-ghost use Rattle.j_entity.specs.Tree.{EntityTree, primitive, hook, a_noun, a_verb, open_mark, close_mark, global_copula};
+ghost use Rattle.j_names.specs.Rows.{f};
+ghost use Rattle.j_entity.specs.Ranks.{endless, of, same};
+ghost use Rattle.j_entity.specs.Tree.{primitive, named, hook, a_noun, a_verb, name, open_mark, close_mark, local_copula, global_copula};
 ghost use Rattle.j_eval.specs.declared.stack.EntryKind.{EntryKind};
 ghost use Rattle.j_eval.specs.declared.stack.EntryKind.TheVariants as kind;
 ghost use Rattle.j_eval.specs.declared.stack.Row.TheVariants as row;
@@ -10,7 +12,7 @@ ghost use Rattle.j_eval.specs.State.{State, Gave, Erred, Spent};
 ghost use Rattle.j_eval.specs.Applying.{call, nested};
 ghost use Rattle.j_eval.specs.Table.{row_at};
 ghost use Rattle.j_eval.specs.Meaning.{top};
-ghost use Rattle.j_eval.specs.Rows.{atom, list, noun, verb, plus, minus, times, at, after, top_of, gave};
+ghost use Rattle.j_eval.specs.Rows.{atom, list, noun, verb, plus, minus, times, at, within, after, knowing, f_is, top_of, gave};
 
 /// Laws: which row four entries match, worked out by hand.
 pub fn table_rows()
@@ -49,7 +51,27 @@ pub fn worked_rows()
     ensures number_assigned { top_of (noun (atom (pos 5)) ∷ global_copula ∷ noun (atom (pos 3)) ∷ []) ≡ Erred fault.Domain (after 2 []) }
     ensures verb_last { top_of (noun (atom (pos 5)) ∷ plus ∷ []) ≡ Erred fault.Syntax (after 2 []) }
     ensures unclosed { top_of (open_mark ∷ noun (atom (pos 5)) ∷ []) ≡ Erred fault.Syntax (after 1 []) }
-    ensures spent { top (minus ∷ minus ∷ noun (atom (pos 5)) ∷ []) (record { steps = 0; budget = 2; shown = [] }) ≡ Spent (record { steps = 2; budget = 2; shown = [] }) }
+    ensures spent { top (minus ∷ minus ∷ noun (atom (pos 5)) ∷ []) (within 2 0) ≡ Spent (within 2 2) }
     ensures enough_levels { (s : State) → call (nested 2) (hook (primitive p.Plus) (primitive p.Times)) None (atom (pos 3)) s ≡ Gave (atom (pos 4)) s }
     ensures too_few_levels { (s : State) → call (nested 1) (hook (primitive p.Plus) (primitive p.Times)) None (atom (pos 3)) s ≡ Erred fault.Stack s }
+{}
+
+/// Laws: sentences with names worked out by hand. A name is given what it holds by row 7, and a verb's name is looked up for each cell, as a step.
+pub fn name_rows()
+    ensures assigned { top_of (name f ∷ global_copula ∷ plus ∷ []) ≡ Gave (a_verb (primitive p.Plus)) (knowing (f_is (a_verb (primitive p.Plus))) 2 []) }
+    ensures assigned_within { top_of (noun (atom (pos 3)) ∷ plus ∷ name f ∷ local_copula ∷ noun (atom (pos 5)) ∷ [])
+        ≡ Gave (a_noun (atom (pos 8))) (knowing (f_is (a_noun (atom (pos 5)))) 3 (codes "8" ++ 10 ∷ [])) }
+    ensures in_parentheses { top_of (open_mark ∷ name f ∷ global_copula ∷ noun (atom (pos 5)) ∷ close_mark ∷ [])
+        ≡ Gave (a_noun (atom (pos 5))) (knowing (f_is (a_noun (atom (pos 5)))) 3 (codes "5" ++ 10 ∷ [])) }
+    ensures no_value { top_of (name f ∷ []) ≡ Erred fault.Value (after 1 []) }
+    ensures noun_by_value { top (name f ∷ plus ∷ name f ∷ []) (knowing (f_is (a_noun (atom (pos 5)))) 0 [])
+        ≡ Gave (a_noun (atom (pos 10))) (knowing (f_is (a_noun (atom (pos 5)))) 2 (codes "10" ++ 10 ∷ [])) }
+    ensures verb_stays { top (name f ∷ []) (knowing (f_is (a_verb (primitive p.Plus))) 0 [])
+        ≡ Gave (a_verb (named f (same (of 0)))) (knowing (f_is (a_verb (primitive p.Plus))) 1 (codes "verb" ++ 10 ∷ [])) }
+    ensures each_cell { top (name f ∷ noun (list (pos 1 ∷ pos 2 ∷ pos 3 ∷ [])) ∷ []) (knowing (f_is (a_verb (primitive p.Minus))) 0 [])
+        ≡ Gave (a_noun (list (negsuc 0 ∷ negsuc 1 ∷ negsuc 2 ∷ []))) (knowing (f_is (a_verb (primitive p.Minus))) 5 (codes "_1 _2 _3" ++ 10 ∷ [])) }
+    ensures left_of_copula { top (name f ∷ global_copula ∷ name f ∷ []) (after 0 []) ≡ Erred fault.Value (knowing (f_is (a_verb (named f endless))) 2 []) }
+    ensures no_verb { call (nested 9) (named f endless) None (atom (pos 1)) (knowing (f_is (a_noun (atom (pos 5)))) 0 []) ≡ Erred fault.Value (knowing (f_is (a_noun (atom (pos 5)))) 1 []) }
+    ensures itself { call (nested 3) (named f endless) None (atom (pos 1)) (knowing (f_is (a_verb (named f endless))) 0 []) ≡ Erred fault.Stack (knowing (f_is (a_verb (named f endless))) 3 []) }
+    ensures spent { call (nested 9) (named f (same (of 0))) None (list (pos 1 ∷ pos 2 ∷ [])) (knowing (f_is (a_verb (primitive p.Minus))) 99 []) ≡ Spent (knowing (f_is (a_verb (primitive p.Minus))) 100 []) }
 {}

@@ -1,32 +1,39 @@
 // The sentences of a run: the parsing table is run over a queue and a stack.
-ghost use Rattle.std.specs.Prelude.{◌≡◌, ◌≤◌, ◌+◌, ◌<◌, length, map, OnOk, IsErrOf, Result as ResultOf};
+ghost use Rattle.std.specs.Prelude.{◌≡◌, ◌+◌, ◌<◌, ◌∷◌, length, map, OnOk, Result as ResultOf};
 ghost use Rattle.j_definitions.specs.declared.Fault.{Fault as FaultValue};
-ghost use Rattle.j_entity.specs.Tree.{EntityTree, VerbTree};
+ghost use Rattle.j_names.specs.Names.{look};
+ghost use Rattle.j_entity.specs.Tree.{EntityTree, VerbTree, a_verb, named};
 ghost use Rattle.j_entity.specs.View.{entity_of, word_of};
 ghost use Rattle.j_trains.specs.Formed.{IsFormed, IsFormedVerb};
 ghost use Rattle.j_eval.specs.State.{or_fault};
 ghost use Rattle.j_eval.specs.Applying.{Calls, nested};
 ghost use Rattle.j_eval.specs.Stack.{stack_of, slot_of};
-ghost use Rattle.j_eval.specs.Table.{kind_of, is_name};
+ghost use Rattle.j_eval.specs.Table.{Word};
 ghost use Rattle.j_eval.specs.declared.stack.Row.TheVariants as row;
-ghost use Rattle.j_eval.specs.Meaning.{ranked, entity_bident, bident_words, unassigned, reduced, entity_in, finished, sentence};
-ghost use Rattle.j_eval.specs.Meets.{Running, Meets, MeetsAs, MeetsAt, Onward};
+ghost use Rattle.j_eval.specs.Meaning.{ranked, entity_bident, bident_words, assigned, reduced, entity_in, is_nil, is_assignment, name_moved, word_moved, moved, no_value, valued, ended, finished, sentence};
+ghost use Rattle.j_eval.specs.Meets.{Running, Meets, MeetsAs, MeetsAt, NoMemoryOr, Onward, given_of};
 
 use crate::machine::Machine;
 use crate::outcome::Halt;
 use crate::stack::{
-    Entry, Row, copied, is_name, is_start, kind_of, pop, pop_adverb, pop_conjunction, pop_noun,
+    Entry, Row, is_copula, is_start, kind_at, kind_of, pop, pop_adverb, pop_conjunction, pop_noun,
     pop_operand, pop_verb, pop_word, push, push_entity, row_of,
 };
-use j_entity::{Entity, Item, Operand, Operator, OperatorParts, Verb};
-use j_noun::{Fault, RankList, Refusal};
+use j_entity::{Entity, Item, Operand, Operator, OperatorParts, Parts, Tree, Verb};
+use j_leaves::{Name, Ranks};
+use j_noun::{Fault, Rank, RankList, Refusal};
 use j_trains as trains;
 use std::alloc::Global;
+
+const ENDLESS: Ranks = Ranks {
+    monad: Rank::Infinite,
+    left: Rank::Infinite,
+    right: Rank::Infinite,
+};
 
 // What forming an entity answers, as a part of a run.
 fn formed(answer: Result<Entity, Refusal>) -> Result<Entity, Halt>
     ensures gives { (m : Running) (r : ResultOf EntityTree FaultValue) → IsFormed r answer → MeetsAs entity_of result m (or_fault r m.state) }
-    ensures unspent { IsErrOf result Halt.Spent → ⊥ }
 {
     match answer {
         Ok(e) => Ok(e),
@@ -38,7 +45,6 @@ fn formed(answer: Result<Entity, Refusal>) -> Result<Entity, Halt>
 // The same of a verb.
 fn formed_verb(answer: Result<Verb, Refusal>) -> Result<Verb, Halt>
     ensures gives { (m : Running) (r : ResultOf VerbTree FaultValue) → IsFormedVerb r answer → Meets result m (or_fault r m.state) }
-    ensures unspent { IsErrOf result Halt.Spent → ⊥ }
 {
     match answer {
         Ok(v) => Ok(v),
@@ -86,50 +92,138 @@ fn bident(alloc: Global, b: Item, c: Item) -> Result<Entity, Refusal>
     }
 }
 
-// Why a word left of a copula isn't assigned: a name comes later, and numbers are no names.
-fn unassigned(name: bool) -> Fault
-    ensures { result ≡ unassigned name }
+// The entity of a word.
+fn entity_in(word: Item) -> Result<Entity, Halt>
+    ensures { (m : Running) → MeetsAs entity_of result m (or_fault (entity_in (word_of word)) m.state) }
 {
-    if name { Fault::Nonce } else { Fault::Domain }
+    match word {
+        Item::Entity(e) => Ok(e),
+        Item::Ranks(_)
+        | Item::Name(_)
+        | Item::Local
+        | Item::Global
+        | Item::Open
+        | Item::Close => Err(Halt::Failed(Fault::Syntax)),
+    }
+}
+
+// The verb that a name is, with these ranks.
+fn name_verb(alloc: Global, name: &Name, ranks: Ranks) -> Result<Entity, Halt>
+    ensures { NoMemoryOr result (λ e. entity_of e ≡ a_verb (named name.now ranks)) }
+{
+    let parts = Parts::Named(name.duplicate()?, ranks);
+    match Verb::derive(alloc, parts) {
+        Ok(v) => Ok(Entity::Verb(v)),
+        Err(_) => Err(Halt::NoMemory),
+    }
+}
+
+fn is_assignment(row: Row) -> bool
+    ensures { result ≡ is_assignment row }
+{
+    matches!(row, Row::Assignment)
 }
 
 impl Machine {
-    // The entity of a word.
-    fn entity_in(&self, word: Item) -> Result<Entity, Halt>
-        ensures gives { MeetsAs entity_of result self.now (entity_in (word_of word) self.now.state) }
-        ensures unspent { IsErrOf result Halt.Spent → ⊥ }
+    // Whether a verb is a name that holds nothing.
+    fn no_value(&self, v: &Verb) -> bool
+        ensures { result ≡ no_value self.now.state.names v.now }
     {
-        match word {
-            Item::Entity(e) => Ok(e),
-            Item::Ranks(_)
-            | Item::Name(_)
-            | Item::Local
-            | Item::Global
-            | Item::Open
-            | Item::Close => Err(Halt::Failed(Fault::Syntax)),
+        match v.tree() {
+            Tree::Named(name, _) => self.held(name).is_none(),
+            Tree::Primitive(_)
+            | Tree::Fork(_, _, _)
+            | Tree::NounFork(_, _, _)
+            | Tree::Hook(_, _)
+            | Tree::Derived(_, _)
+            | Tree::Derived2(_, _, _)
+            | Tree::Explicit(_)
+            | Tree::Explicit1(_, _)
+            | Tree::Explicit2(_, _, _) => false,
+        }
+    }
+
+    // What a sentence gives at its end. A verb's name that holds nothing is no value.
+    fn valued(&self, quiet: bool, e: Entity) -> Result<(Entity, bool), Halt>
+        ensures { MeetsAs given_of result self.now (valued quiet (entity_of e) self.now.state) }
+    {
+        match e {
+            Entity::Verb(v) => {
+                if self.no_value(&v) {
+                    return Err(Halt::Failed(Fault::Value));
+                }
+                Ok((Entity::Verb(v), quiet))
+            }
+            Entity::Noun(_) | Entity::Adverb(_) | Entity::Conjunction(_) => Ok((e, quiet)),
+        }
+    }
+
+    // What a sentence gives by its last word, where it stands alone.
+    fn ended(&self, quiet: bool, alone: bool, word: Item) -> Result<(Entity, bool), Halt>
+        ensures { MeetsAs given_of result self.now (ended quiet alone (word_of word) self.now.state) }
+    {
+        if alone {
+            let e = entity_in(word)?;
+            self.valued(quiet, e)
+        } else {
+            Err(Halt::Failed(Fault::Syntax))
         }
     }
 
     // At the end the stack is the start mark and one entity.
-    fn finished(&self, mut stack: Vec<Entry>) -> Result<Entity, Halt>
-        ensures gives { MeetsAs entity_of result self.now (finished (stack_of stack.items) self.now.state) }
-        ensures unspent { IsErrOf result Halt.Spent → ⊥ }
+    fn finished(&self, quiet: bool, mut stack: Vec<Entry>) -> Result<(Entity, bool), Halt>
+        ensures { MeetsAs given_of result self.now (finished quiet (stack_of stack.items) self.now.state) }
     {
         let mark = pop(&mut stack)?;
         let word = pop_word(&mut stack)?;
-        if is_start(kind_of(&mark)) && stack.is_empty() {
-            self.entity_in(word)
-        } else {
-            Err(Halt::Failed(Fault::Syntax))
+        let alone = is_start(kind_of(&mark)) && stack.is_empty();
+        self.ended(quiet, alone, word)
+    }
+
+    // What a name becomes when it is moved.
+    fn name_moved(&self, name: &Name) -> Result<Entity, Halt>
+        ensures { NoMemoryOr result (λ e. entity_of e ≡ name_moved name.now (look self.now.state.names name.now)) }
+    {
+        match self.held(name) {
+            None => name_verb(self.alloc(), name, ENDLESS),
+            Some(Entity::Verb(v)) => name_verb(self.alloc(), name, v.ranks()),
+            Some(Entity::Noun(y)) => Ok(Entity::Noun(y.duplicate()?)),
+            Some(Entity::Adverb(a)) => Ok(Entity::Adverb(a.duplicate()?)),
+            Some(Entity::Conjunction(c)) => Ok(Entity::Conjunction(c.duplicate()?)),
         }
+    }
+
+    // A word as it is moved, where it may be left of a copula.
+    fn word_moved(&self, left: bool, word: &Item) -> Result<Item, Halt>
+        ensures { NoMemoryOr result (λ w. word_of w ≡ word_moved left self.now.state.names (word_of word.now)) }
+    {
+        match word {
+            Item::Name(name) if !left => Ok(Item::Entity(self.name_moved(name)?)),
+            Item::Name(name) => Ok(Item::Name(name.duplicate()?)),
+            Item::Entity(e) => Ok(Item::Entity(e.duplicate()?)),
+            Item::Ranks(l) => Ok(Item::Ranks(l.duplicate()?)),
+            Item::Local => Ok(Item::Local),
+            Item::Global => Ok(Item::Global),
+            Item::Open => Ok(Item::Open),
+            Item::Close => Ok(Item::Close),
+        }
+    }
+
+    // The next word is moved to the stack. A name directly left of a copula stays as it is.
+    fn move_word(&self, stack: &mut Vec<Entry>, word: &Item) -> Result<(), Halt>
+        ensures { NoMemoryOr result (λ _. (stack_of stack.new.items ≡ moved self.now.state.names (stack_of stack.old.items) (Word (word_of word.now)) ∷ stack_of stack.old.items)
+            × (length stack.new.items ≡ length stack.old.items + 1)) }
+    {
+        let left = is_copula(kind_at(stack, 0));
+        let word = self.word_moved(left, word)?;
+        push(stack, Entry::Word(word))
     }
 
     // Row 0: a verb at an edge, on the noun right of it.
     fn monad(&mut self, room: u32, stack: &mut Vec<Entry>) -> Result<(), Halt>
         ensures gives { MeetsAt (stack_of stack.new.items) result self.new (reduced (nested room) row.Monad (stack_of stack.old.items) self.old.state) }
         ensures shorter { OnOk result ((0 < length stack.new.items) × (length stack.new.items < length stack.old.items)) }
-        ensures unspent { IsErrOf result Halt.Spent → ⊥ }
-        ensures same { self.new ≡ self.old }
+        ensures onward { Onward self.old self.new }
     {
         let a = pop(stack)?;
         let v = pop_verb(stack)?;
@@ -143,8 +237,7 @@ impl Machine {
     fn monad_right(&mut self, room: u32, stack: &mut Vec<Entry>) -> Result<(), Halt>
         ensures gives { MeetsAt (stack_of stack.new.items) result self.new (reduced (nested room) row.MonadRight (stack_of stack.old.items) self.old.state) }
         ensures shorter { OnOk result ((0 < length stack.new.items) × (length stack.new.items < length stack.old.items)) }
-        ensures unspent { IsErrOf result Halt.Spent → ⊥ }
-        ensures same { self.new ≡ self.old }
+        ensures onward { Onward self.old self.new }
     {
         let a = pop(stack)?;
         let b = pop(stack)?;
@@ -160,8 +253,7 @@ impl Machine {
     fn dyad(&mut self, room: u32, stack: &mut Vec<Entry>) -> Result<(), Halt>
         ensures gives { MeetsAt (stack_of stack.new.items) result self.new (reduced (nested room) row.Dyad (stack_of stack.old.items) self.old.state) }
         ensures shorter { OnOk result ((0 < length stack.new.items) × (length stack.new.items < length stack.old.items)) }
-        ensures unspent { IsErrOf result Halt.Spent → ⊥ }
-        ensures same { self.new ≡ self.old }
+        ensures onward { Onward self.old self.new }
     {
         let a = pop(stack)?;
         let x = pop_noun(stack)?;
@@ -176,7 +268,6 @@ impl Machine {
     fn modified(&self, stack: &mut Vec<Entry>) -> Result<(), Halt>
         ensures gives { (calls : Calls) → MeetsAt (stack_of stack.new.items) result self.now (reduced calls row.Adverb (stack_of stack.old.items) self.now.state) }
         ensures shorter { OnOk result ((0 < length stack.new.items) × (length stack.new.items < length stack.old.items)) }
-        ensures unspent { IsErrOf result Halt.Spent → ⊥ }
     {
         let a = pop(stack)?;
         let u = pop_operand(stack)?;
@@ -190,7 +281,6 @@ impl Machine {
     fn joined(&self, stack: &mut Vec<Entry>) -> Result<(), Halt>
         ensures gives { (calls : Calls) → MeetsAt (stack_of stack.new.items) result self.now (reduced calls row.Conjunction (stack_of stack.old.items) self.now.state) }
         ensures shorter { OnOk result ((0 < length stack.new.items) × (length stack.new.items < length stack.old.items)) }
-        ensures unspent { IsErrOf result Halt.Spent → ⊥ }
     {
         let a = pop(stack)?;
         let u = pop_operand(stack)?;
@@ -205,7 +295,6 @@ impl Machine {
     fn train(&self, stack: &mut Vec<Entry>) -> Result<(), Halt>
         ensures gives { (calls : Calls) → MeetsAt (stack_of stack.new.items) result self.now (reduced calls row.Fork (stack_of stack.old.items) self.now.state) }
         ensures shorter { OnOk result ((0 < length stack.new.items) × (length stack.new.items < length stack.old.items)) }
-        ensures unspent { IsErrOf result Halt.Spent → ⊥ }
     {
         let a = pop(stack)?;
         let f = pop_operand(stack)?;
@@ -220,7 +309,6 @@ impl Machine {
     fn bident(&self, stack: &mut Vec<Entry>) -> Result<(), Halt>
         ensures gives { (calls : Calls) → MeetsAt (stack_of stack.new.items) result self.now (reduced calls row.Bident (stack_of stack.old.items) self.now.state) }
         ensures shorter { OnOk result ((0 < length stack.new.items) × (length stack.new.items < length stack.old.items)) }
-        ensures unspent { IsErrOf result Halt.Spent → ⊥ }
     {
         let a = pop(stack)?;
         let b = pop_word(stack)?;
@@ -230,21 +318,43 @@ impl Machine {
         push(stack, a)
     }
 
-    // Row 7: a name or a noun left of a copula.
-    fn assignment(&self, stack: &mut Vec<Entry>) -> Result<(), Halt>
-        ensures gives { (calls : Calls) → MeetsAt (stack_of stack.new.items) result self.now (reduced calls row.Assignment (stack_of stack.old.items) self.now.state) }
-        ensures shorter { OnOk result ((0 < length stack.new.items) × (length stack.new.items < length stack.old.items)) }
-        ensures unspent { IsErrOf result Halt.Spent → ⊥ }
+    // What stands left of a copula is given an entity, where it is a name.
+    fn assign(&mut self, left: Entry, e: Entity) -> Result<(), Halt>
+        ensures gives { Meets result self.new (assigned (slot_of left) (entity_of e) self.old.state) }
+        ensures onward { Onward self.old self.new }
     {
-        let a = pop(stack)?;
-        Err(Halt::Failed(unassigned(is_name(kind_of(&a)))))
+        match left {
+            Entry::Word(Item::Name(name)) => self.set_name(name, e),
+            Entry::Start
+            | Entry::Word(
+                Item::Entity(_)
+                | Item::Ranks(_)
+                | Item::Local
+                | Item::Global
+                | Item::Open
+                | Item::Close,
+            ) => Err(Halt::Failed(Fault::Domain)),
+        }
+    }
+
+    // Row 7: a name or a noun left of a copula.
+    fn assignment(&mut self, stack: &mut Vec<Entry>) -> Result<(), Halt>
+        ensures gives { (calls : Calls) → MeetsAt (stack_of stack.new.items) result self.new (reduced calls row.Assignment (stack_of stack.old.items) self.old.state) }
+        ensures shorter { OnOk result ((0 < length stack.new.items) × (length stack.new.items < length stack.old.items)) }
+        ensures onward { Onward self.old self.new }
+    {
+        let left = pop(stack)?;
+        pop(stack)?;
+        let e = entity_in(pop_word(stack)?)?;
+        let held = e.duplicate()?;
+        self.assign(left, held)?;
+        push_entity(stack, e)
     }
 
     // Row 8: an entity in parentheses.
     fn parentheses(&self, stack: &mut Vec<Entry>) -> Result<(), Halt>
         ensures gives { (calls : Calls) → MeetsAt (stack_of stack.new.items) result self.now (reduced calls row.Parentheses (stack_of stack.old.items) self.now.state) }
         ensures shorter { OnOk result ((0 < length stack.new.items) × (length stack.new.items < length stack.old.items)) }
-        ensures unspent { IsErrOf result Halt.Spent → ⊥ }
     {
         pop(stack)?;
         let e = pop(stack)?;
@@ -256,8 +366,7 @@ impl Machine {
     fn reduce(&mut self, room: u32, row: Row, stack: &mut Vec<Entry>) -> Result<(), Halt>
         ensures gives { MeetsAt (stack_of stack.new.items) result self.new (reduced (nested room) row (stack_of stack.old.items) self.old.state) }
         ensures shorter { OnOk result ((0 < length stack.new.items) × (length stack.new.items < length stack.old.items)) }
-        ensures unspent { IsErrOf result Halt.Spent → ⊥ }
-        ensures same { self.new ≡ self.old }
+        ensures onward { Onward self.old self.new }
     {
         match row {
             Row::Monad => self.monad(room, stack),
@@ -272,31 +381,29 @@ impl Machine {
         }
     }
 
-    /// The value of a sentence.
-    pub(crate) fn evaluate(&mut self, room: u32, items: &[Item]) -> Result<Entity, Halt>
-        ensures gives { MeetsAs entity_of result self.new (sentence (nested room) (map word_of items.now) self.old.state) }
+    /// The value of a sentence, and whether its last row was an assignment.
+    pub(crate) fn evaluate(&mut self, room: u32, items: &[Item]) -> Result<(Entity, bool), Halt>
+        ensures gives { MeetsAs given_of result self.new (sentence (nested room) (map word_of items.now) self.old.state) }
         ensures onward { Onward self.old self.new }
-        ensures shown { self.new.state.shown ≡ self.old.state.shown }
-        ensures most { self.new.state.steps ≤ self.old.state.steps + length items.now + 1 }
-        ensures spent { IsErrOf result Halt.Spent → self.old.state.budget < self.old.state.steps + length items.now + 1 }
-        ensures readiness { self.new.readiness ≡ self.old.readiness }
     {
         self.tick()?;
         let mut stack = Vec::new(self.alloc());
         let mut left = items;
         let mut started = false;
+        let mut quiet = false;
         'turns: loop {
             if let Some(row) = row_of(&stack) {
                 self.tick()?;
                 self.reduce(room, row, &mut stack)?;
+                quiet = is_assignment(row);
             } else if let Some((item, rest)) = left.split_last() {
-                push(&mut stack, Entry::Word(copied(item)?))?;
+                self.move_word(&mut stack, item)?;
                 left = rest;
             } else if !started {
                 push(&mut stack, Entry::Start)?;
                 started = true;
             } else {
-                return self.finished(stack);
+                return self.finished(quiet, stack);
             }
         }
     }

@@ -79,7 +79,7 @@ pub fn kind_of(entry: &Entry) -> EntryKind
     }
 }
 
-fn kind_at(stack: &[Entry], k: u32) -> EntryKind
+pub fn kind_at(stack: &[Entry], k: u32) -> EntryKind
     ensures { result ≡ kind_at (stack_of stack.now) k }
 {
     match stack.split_last() {
@@ -118,7 +118,7 @@ fn is_conjunction(k: EntryKind) -> bool
     matches!(k, EntryKind::Conjunction)
 }
 
-fn is_copula(k: EntryKind) -> bool
+pub fn is_copula(k: EntryKind) -> bool
     ensures { result ≡ is_copula k }
 {
     matches!(k, EntryKind::Copula)
@@ -136,7 +136,7 @@ fn is_close(k: EntryKind) -> bool
     matches!(k, EntryKind::Close)
 }
 
-pub fn is_name(k: EntryKind) -> bool
+fn is_name(k: EntryKind) -> bool
     ensures { result ≡ is_name k }
 {
     matches!(k, EntryKind::Name)
@@ -225,21 +225,6 @@ pub fn push(stack: &mut Vec<Entry>, entry: Entry) -> Result<(), Halt>
     match stack.push(entry) {
         Ok(()) => Ok(()),
         Err(_) => Err(Halt::NoMemory),
-    }
-}
-
-/// A word as it is moved to the stack.
-pub fn copied(word: &Item) -> Result<Item, Halt>
-    ensures { NoMemoryOr result (λ w. word_of w ≡ word_of word.now) }
-{
-    match word {
-        Item::Entity(e) => Ok(Item::Entity(e.duplicate()?)),
-        Item::Ranks(l) => Ok(Item::Ranks(l.duplicate()?)),
-        Item::Name(n) => Ok(Item::Name(n.duplicate()?)),
-        Item::Local => Ok(Item::Local),
-        Item::Global => Ok(Item::Global),
-        Item::Open => Ok(Item::Open),
-        Item::Close => Ok(Item::Close),
     }
 }
 

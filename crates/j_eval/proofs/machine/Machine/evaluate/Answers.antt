@@ -1,11 +1,11 @@
 use Rattle.std.proofs.Common.{rules, arith, sym, ◌∙◌, ◌≡◌, ◌+◌, ◌-◌, length, map, subst, false, true, Some, None, ap}
 use Rattle.std.proofs.lemmas.List.{length-reverse, length-map}
-use Rattle.j_entity.specs.View.{entity_of, word_of}
+use Rattle.j_entity.specs.View.{word_of}
 use Rattle.j_eval.specs.Applying.{nested}
 use Rattle.j_eval.specs.Table.{row_of}
 use Rattle.j_eval.specs.Stack.{stack_of, slot_of}
-use Rattle.j_eval.specs.Meaning.{sentence}
-use Rattle.j_eval.specs.Meets.{MeetsAs, Running}
+use Rattle.j_eval.specs.Meaning.{parsed, sentence}
+use Rattle.j_eval.specs.Meets.{MeetsAs, given_of}
 use Rattle.j_eval.proofs.Sentences.{queue_rest, marks, tick_err, reduce_more, reduce_err, item_more, mark_more, queue_end, row_long, still_open}
 use Rattle.j_eval.proofs.machine.Machine.evaluate.Goals as goal
 
@@ -13,32 +13,21 @@ pub returns-in_err-tick-2-clause-gives : goal.returns-in_err-tick-2-clause-gives
 returns-in_err-tick-2-clause-gives c =
     let v = c.turns.invariant in
     let is : row_of (stack_of c.turns.stack.items) ≡ Some c.in-Some.row = search rules in
-    let h = tick_err (nested c.args.room) (queue_rest c.turns.started (map word_of c.turns.left.now)) (stack_of c.turns.stack.items) c.turns.self.state v.bound c.in-Some.row c.in_err-tick-2.field-0.0 c.tick-in-Some.new.self
+    let h = tick_err (nested c.args.room) c.turns.quiet (queue_rest c.turns.started (map word_of c.turns.left.now)) (stack_of c.turns.stack.items) c.turns.self.state v.bound c.in-Some.row c.in_err-tick-2.field-0.0 c.tick-in-Some.new.self
     (sentence (nested c.args.room) (map word_of c.args.items.now) c.args.self.now.state) (omega (arith, v.enough)) is v.same c.in_err-tick-2.ensures.gives in
     search rules
 
-pub returns-in_err-tick-2-clause-spent : goal.returns-in_err-tick-2-clause-spent
-returns-in_err-tick-2-clause-spent c = λ _.
+pub turns-preserved-in-Some : goal.turns-preserved-in-Some
+turns-preserved-in-Some c =
     let v = c.turns.invariant in
     let is : row_of (stack_of c.turns.stack.items) ≡ Some c.in-Some.row = search rules in
-    let long = row_long (stack_of c.turns.stack.items) c.in-Some.row is in
-    omega (arith, long, length-reverse (map slot_of c.turns.stack.items), length-map c.turns.stack.items slot_of, v.most, v.onward.budget, c.in_err-tick-2.ensures.spent.1)
-
-pub turns-preserved-in_ok-reduce : goal.turns-preserved-in_ok-reduce
-turns-preserved-in_ok-reduce c =
-    let v = c.turns.invariant in
-    let is : row_of (stack_of c.turns.stack.items) ≡ Some c.in-Some.row = search rules in
-    let more = reduce_more (nested c.args.room) (queue_rest c.turns.started (map word_of c.turns.left.now)) (stack_of c.turns.stack.items) c.turns.self.state v.bound c.in-Some.row (stack_of c.reduce.new.stack.items)
+    let more = reduce_more (nested c.args.room) c.turns.quiet (queue_rest c.turns.started (map word_of c.turns.left.now)) (stack_of c.turns.stack.items) c.turns.self.state v.bound c.in-Some.row (stack_of c.reduce.new.stack.items)
     c.tick-in-Some.new.self.state c.reduce.new.self.state (omega (arith, v.enough)) is c.in_ok-tick-2.ensures.gives c.in_ok-reduce.ensures.gives in
-    let steps : c.reduce.new.self.state.steps ≡ c.turns.self.state.steps + 1 = ap (λ (m : Running). m.state.steps) c.in_ok-reduce.ensures.same ∙ c.in_ok-tick-2.ensures.counted in
     record {
       bound = v.bound - 1;
       enough = omega (arith, v.enough, c.in_ok-reduce.ensures.shorter.1);
-      same = sym more ∙ v.same;
+      same = ap (λ q. parsed (v.bound - 1) (nested c.args.room) q (queue_rest c.turns.started (map word_of c.turns.left.now)) (stack_of c.reduce.new.stack.items) c.reduce.new.self.state) c.is_assignment-quiet.ensures ∙ sym more ∙ v.same;
       ended = λ e. ((v.ended e).0, c.in_ok-reduce.ensures.shorter.0);
-      most = omega (arith, v.most, c.in_ok-reduce.ensures.shorter.1, steps);
-      shown = search rules;
-      readiness = search rules;
       onward = search rules;
     }
 
@@ -46,7 +35,7 @@ pub returns-in_err-reduce-clause-gives : goal.returns-in_err-reduce-clause-gives
 returns-in_err-reduce-clause-gives c =
     let v = c.turns.invariant in
     let is : row_of (stack_of c.turns.stack.items) ≡ Some c.in-Some.row = search rules in
-    let h = reduce_err (nested c.args.room) (queue_rest c.turns.started (map word_of c.turns.left.now)) (stack_of c.turns.stack.items) c.turns.self.state v.bound c.in-Some.row c.in_err-reduce.field-0.0 c.reduce.new.self
+    let h = reduce_err (nested c.args.room) c.turns.quiet (queue_rest c.turns.started (map word_of c.turns.left.now)) (stack_of c.turns.stack.items) c.turns.self.state v.bound c.in-Some.row c.in_err-reduce.field-0.0 c.reduce.new.self
     c.tick-in-Some.new.self.state (stack_of c.reduce.new.stack.items) (sentence (nested c.args.room) (map word_of c.args.items.now) c.args.self.now.state) (omega (arith, v.enough)) is c.in_ok-tick-2.ensures.gives v.same c.in_err-reduce.ensures.gives in
     search rules
 
@@ -56,17 +45,14 @@ turns-preserved-in-Some-split_last c =
     let last = c.in-Some-split_last.ensures.cases in
     let none : row_of (stack_of c.turns.stack.items) ≡ None = search rules in
     let unstarted : c.turns.started ≡ false = still_open c.turns.started c.turns.left.now (λ e. (v.ended e).0) (omega (arith, last.1)) in
-    let pushed = c.in_ok-push.ensures in
-    let more = item_more (nested c.args.room) c.turns.started c.turns.left.now c.in-Some-split_last.rest.now c.in-Some-split_last.item.now (word_of c.in_ok-copied.field-0) (stack_of c.turns.stack.items) (stack_of c.push.new.stack.items)
+    let pushed = c.in_ok-move_word.ensures in
+    let more = item_more (nested c.args.room) c.turns.quiet c.turns.started c.turns.left.now c.in-Some-split_last.rest.now c.in-Some-split_last.item.now (word_of c.in-Some-split_last.item.now) (stack_of c.turns.stack.items) (stack_of c.move_word.new.stack.items)
     c.turns.self.state v.bound unstarted last.0 (search rules) pushed.0 (omega (arith, v.enough)) none in
     record {
       bound = v.bound - 1;
       enough = omega (arith, v.enough, last.1, pushed.1);
       same = sym more ∙ v.same;
       ended = λ e. absurd (let no : false ≡ true = sym unstarted ∙ e in cc);
-      most = omega (arith, v.most, last.1, pushed.1);
-      shown = v.shown;
-      readiness = v.readiness;
       onward = v.onward;
     }
 
@@ -76,17 +62,14 @@ turns-preserved c =
     let none : row_of (stack_of c.turns.stack.items) ≡ None = search rules in
     let empty : length c.turns.left.now ≡ 0 = search rules in
     let unstarted : c.turns.started ≡ false = search rules in
-    let pushed = c.in_ok-push-2.ensures in
+    let pushed = c.in_ok-push.ensures in
     let left : marks c.turns.started ≡ 1 = ap marks unstarted in
-    let more = mark_more (nested c.args.room) c.turns.started c.turns.left.now (stack_of c.turns.stack.items) (stack_of c.push-then-not-started.new.stack.items) c.turns.self.state v.bound unstarted empty pushed.0 (omega (arith, v.enough)) none in
+    let more = mark_more (nested c.args.room) c.turns.quiet c.turns.started c.turns.left.now (stack_of c.turns.stack.items) (stack_of c.push.new.stack.items) c.turns.self.state v.bound unstarted empty pushed.0 (omega (arith, v.enough)) none in
     record {
       bound = v.bound - 1;
       enough = omega (arith, v.enough, left, pushed.1);
       same = sym more ∙ v.same;
       ended = λ _. (empty, omega (arith, pushed.1));
-      most = omega (arith, v.most, left, pushed.1);
-      shown = v.shown;
-      readiness = v.readiness;
       onward = v.onward;
     }
 
@@ -95,18 +78,6 @@ returns-else-not-started-clause-gives c =
     let v = c.turns.invariant in
     let none : row_of (stack_of c.turns.stack.items) ≡ None = search rules in
     let started : c.turns.started ≡ true = search rules in
-    let end = queue_end (nested c.args.room) c.turns.started (map word_of c.turns.left.now) (stack_of c.turns.stack.items) c.turns.self.state v.bound started (omega (arith, v.enough)) none in
-    subst (MeetsAs entity_of c.finished.result c.turns.self) (sym end ∙ v.same) c.finished.ensures.gives
+    let end = queue_end (nested c.args.room) c.turns.quiet c.turns.started (map word_of c.turns.left.now) (stack_of c.turns.stack.items) c.turns.self.state v.bound started (omega (arith, v.enough)) none in
+    subst (MeetsAs given_of c.finished.result c.turns.self) (sym end ∙ v.same) c.finished.ensures
 
-pub returns-else-not-started-clause-most : goal.returns-else-not-started-clause-most
-returns-else-not-started-clause-most c =
-    let started : c.turns.started ≡ true = search rules in
-    omega (arith, c.turns.invariant.most, (c.turns.invariant.ended started).1)
-
-pub returns-in_err-reduce-clause-most : goal.returns-in_err-reduce-clause-most
-returns-in_err-reduce-clause-most c =
-    let v = c.turns.invariant in
-    let is : row_of (stack_of c.turns.stack.items) ≡ Some c.in-Some.row = search rules in
-    let long = row_long (stack_of c.turns.stack.items) c.in-Some.row is in
-    let steps : c.reduce.new.self.state.steps ≡ c.turns.self.state.steps + 1 = ap (λ (m : Running). m.state.steps) c.in_err-reduce.ensures.same ∙ c.in_ok-tick-2.ensures.counted in
-    omega (arith, long, length-reverse (map slot_of c.turns.stack.items), length-map c.turns.stack.items slot_of, v.most, steps)

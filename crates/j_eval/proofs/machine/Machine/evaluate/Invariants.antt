@@ -12,11 +12,8 @@ abbrev pub invariant-turns : goal.invariant-turns
 invariant-turns l = record {
   bound : ℕ;
   enough : 2 * (length l.left + marks l.started) + length l.stack.items < bound;
-  same : parsed bound (nested l.room) (queue_rest l.started (map word_of l.left)) (stack_of l.stack.items) l.self.state ≡ sentence (nested l.room) (map word_of l.items) l.fn.self.state;
+  same : parsed bound (nested l.room) l.quiet (queue_rest l.started (map word_of l.left)) (stack_of l.stack.items) l.self.state ≡ sentence (nested l.room) (map word_of l.items) l.fn.self.state;
   ended : l.started ≡ true → (length l.left ≡ 0) × (0 < length l.stack.items);
-  most : l.self.state.steps + length l.stack.items + length l.left + marks l.started ≤ l.fn.self.state.steps + length l.items + 2;
-  shown : l.self.state.shown ≡ l.fn.self.state.shown;
-  readiness : l.self.readiness ≡ l.fn.self.readiness;
   onward : Onward l.fn.self l.self;
 }
 
