@@ -71,15 +71,16 @@ fn run_script<'a>(
 // The first line that a byte alone, doubled or after a letter shows, where no number is shown.
 fn shown_for(byte: u8) -> [&'static [u8]; 3] {
     match byte {
-        b'\t' | b'\n' | b' ' => [b"", b"", b"|nonce error"],
+        b'\t' | b'\n' | b' ' => [b"", b"", b"|value error"],
         b'\'' => [b"|open quote", b"|nonce error", b"|open quote"],
         b'_' => [
             b"|ill-formed number",
             b"|ill-formed number",
             b"|spelling error",
         ],
-        b'+' | b'-' | b'*' | b'[' | b']' => [b"verb\n", b"verb\n", b"|nonce error"],
-        b'(' | b')' => [b"|syntax error", b"|syntax error", b"|nonce error"],
+        b'+' | b'-' | b'*' | b'[' | b']' => [b"verb\n", b"verb\n", b"verb\n"],
+        b'(' | b')' => [b"|syntax error", b"|syntax error", b"|syntax error"],
+        b'a'..=b'z' | b'A'..=b'Z' => [b"|value error", b"|value error", b"|value error"],
         33..=126 => [b"|nonce error", b"|nonce error", b"|nonce error"],
         _ => [b"|spelling error", b"|spelling error", b"|spelling error"],
     }
@@ -106,7 +107,13 @@ fn every_byte(rt: HostRuntime) -> Result<(), Fail> {
             doubled,
             status_of(doubled),
         )?;
-        run_long(&rt, alloc, vec![in alloc; b'a', byte]?, after_letter, 3)?;
+        run_long(
+            &rt,
+            alloc,
+            vec![in alloc; b'a', byte]?,
+            after_letter,
+            status_of(after_letter),
+        )?;
     }
     Ok(())
 }
@@ -163,7 +170,7 @@ fn scripts(rt: HostRuntime) -> Result<(), Fail> {
         (b"abc.\n", b"|spelling error\n|   abc.\n", 3),
         (b"%: 4\n", b"|nonce error\n|   %: 4\n", 3),
         (b"3x %: 4\n", b"|nonce error\n|   3x %: 4\n", 3),
-        (b"abc =: 4\n", b"|nonce error\n|   abc =: 4\n", 3),
+        (b"abc =: 4\n", b"", 0),
         (b"1 2 +\n", b"|syntax error\n|   1 2 +\n", 3),
         (b"3-4 NB. '\n", b"_1\n", 0),
         (

@@ -128,10 +128,10 @@ fn faults_in_order(rt: HostRuntime) -> Result<(), Fail> {
         ("() abc.", "spelling"),
         ("1e19 + % 3", "nonce"),
         ("1e19 + f", "overflow"),
-        ("f + 1e19", "nonce"),
+        ("f + 1e19", "overflow"),
         ("() 1e19", "overflow"),
-        ("3 =: f", "nonce"),
-        ("1 2 + 1 2 3 + f", "nonce"),
+        ("3 =: f", "domain"),
+        ("1 2 + 1 2 3 + f_z_", "nonce"),
     ];
     fail(&rt, alloc, &rows)
 }
