@@ -1,5 +1,6 @@
 -- How the logic stores a machine.
-use Rattle.std.specs.Prelude.{◌≡◌, ℕ, List, refl, ap}
+use Rattle.std.specs.Prelude.{◌≡◌, ℕ, zero, suc, List, refl}
+use Rattle.std.proofs.Common.{ap}
 use Rattle.std.specs.Coded.{Coded, code_by, coded×, coded_list, coded_ℕ}
 use Rattle.std.specs.FinMap as map
 use Rattle.j_names.specs.Coded.{coded_entity}
