@@ -48,17 +48,6 @@ pub turn_fits : (a : Answer) (old new : Running) (line : List ℕ) (items : List
     → TurnFits a new line (next (run_of old) line)
 turn_fits a old new line items e some b p = subst (TurnFits a new line) (sym (next_given line items old e some b)) (fits_of a new line (top items old.state) p)
 
--- what is shown comes before a report
-pub shown_prefix : (a : Answer) (m : Running) (line : List ℕ) (run : RunState) (o n : Option (List ℕ)) → TurnFits a m line (next run line) → GrewByPrefix o n m.state.shown → GrewByPrefix o n (pieces run (line ∷ []))
-shown_prefix (answer.Value e) m line run o n fits p =
-    subst (λ (t : Turn). GrewByPrefix o n (t.piece ++ [])) (sym fits.0) (prefix_longer o n m.state.shown [] p)
-shown_prefix (answer.Failed f) m line run o n fits p =
-    let piece = m.state.shown ++ report f line in
-    subst (λ (t : Turn). GrewByPrefix o n (t.piece ++ [])) (sym fits) (prefix_longer o n piece [] (prefix_longer o n m.state.shown (report f line) p))
-shown_prefix answer.Spent m line run o n fits p =
-    subst (λ (t : Turn). GrewByPrefix o n (t.piece ++ [])) (sym fits) (prefix_longer o n m.state.shown [] p)
-shown_prefix answer.NoMemory m line run o n fits p = prefix_longer o n [] (pieces run (line ∷ [])) (subst (GrewByPrefix o n) fits p)
-
 -- a turn whose piece was written
 pub ran_to : (run state : RunState) (line shown : List ℕ) (at : End) (o n : Option (List ℕ)) → next run line ≡ record { state = state; piece = shown } → state.end ≡ at → Grew o n shown → Ran run (line ∷ []) o n at
 ran_to run state line shown at o n e is grew =

@@ -103,6 +103,9 @@ pub fn run_command<S: Source, K: Sink>(
     // A write fault comes only where the sink had one.
     ensures write_fault { result ≡ 6 → Rose (K.faults sink.old) (K.faults sink.new) }
 
+    // An error is reported only where it stops the run.
+    ensures stopped { result ≡ 3 → IfSome (S.texts source.old) (λ held. (answer (words_of words.now.items) held).status ≡ 3) }
+
     // The budget is reported spent only where the run's steps are.
     ensures spent { result ≡ 4 → IfSome (S.texts source.old) (λ held. (answer (words_of words.now.items) held).status ≡ 4) }
 
