@@ -7,13 +7,14 @@ use Rattle.j_numbers.specs.declared.fault.NumberFault.{NumberFault}
 use Rattle.j_words.specs.declared.Class.{Class}
 use Rattle.j_words.specs.declared.Class.TheVariants as class
 use Rattle.j_words.specs.declared.Word.{Word}
+use Rattle.j_leaves.specs.Names.{NameParts, name_of}
 use Rattle.j_leaves.specs.Spelling.{primitive_of, modifier_of}
 use Rattle.j_leaves.specs.declared.primitive.Primitive.{Primitive}
 use Rattle.j_leaves.specs.declared.modifier.Modifier.{Modifier}
 use Rattle.j_numbers.specs.Literals.{noun}
 use Rattle.j_entity.specs.Tree.{WordTree, entity, ranks_word, name, local_copula, global_copula, open_mark, close_mark}
 use Rattle.j_entity.specs.View.{placed, takes_ranks}
-use Rattle.j_explicit.specs.Reading.{noun_item, verb_item, adverb_item, conjunction_item, copula_item, item_as, item_of, text_of}
+use Rattle.j_explicit.specs.Reading.{noun_item, verb_item, adverb_item, conjunction_item, copula_item, name_item, item_as, item_of, text_of}
 
 -- a word that isn't a rank list, or a fault
 abbrev IsNoRankList : Result WordTree Fault → Type 0
@@ -37,6 +38,10 @@ conjunction_is_none : (r : Option Modifier) → IsNoRankList (conjunction_item r
 conjunction_is_none (Some m) = tt
 conjunction_is_none None = tt
 
+name_is_none : (r : Option NameParts) → IsNoRankList (name_item r)
+name_is_none (Some n) = tt
+name_is_none None = tt
+
 either_is_none : (b : Bool) (r s : Result WordTree Fault) → IsNoRankList r → IsNoRankList s → IsNoRankList (cond b r s)
 either_is_none true r s h k = h
 either_is_none false r s h k = k
@@ -53,7 +58,7 @@ item_is_none class.Copula text = copula_is_none text
 item_is_none class.Open text = tt
 item_is_none class.Close text = tt
 item_is_none class.Text text = tt
-item_is_none class.Name text = tt
+item_is_none class.Name text = name_is_none (name_of text)
 item_is_none class.NounWord text = tt
 item_is_none class.Control text = tt
 

@@ -13,10 +13,11 @@ use Rattle.j_words.specs.declared.Class.TheVariants as class
 use Rattle.j_words.specs.declared.Word.{Word}
 use Rattle.j_words.specs.declared.WordFault.{WordFault}
 use Rattle.j_words.specs.declared.WordFault.TheVariants as word
+use Rattle.j_leaves.specs.Names.{NameParts, name_of}
 use Rattle.j_leaves.specs.Spelling.{primitive_of, modifier_of}
 use Rattle.j_leaves.specs.declared.primitive.Primitive.{Primitive}
 use Rattle.j_leaves.specs.declared.modifier.Modifier.{Modifier}
-use Rattle.j_entity.specs.Tree.{WordTree, primitive, modifier, a_noun, a_verb, an_adverb, a_conjunction, entity, local_copula, global_copula, open_mark, close_mark}
+use Rattle.j_entity.specs.Tree.{WordTree, primitive, modifier, a_noun, a_verb, an_adverb, a_conjunction, entity, name, local_copula, global_copula, open_mark, close_mark}
 
 -- Want of memory is no line's fault.
 abbrev pub fault_of_word : WordFault → Fault
@@ -50,6 +51,10 @@ conjunction_item None = Err fault.Spelling
 abbrev pub copula_item : List ℕ → Result WordTree Fault
 copula_item text = cond (bytes_eq text (codes "=.")) (Ok local_copula) (cond (bytes_eq text (codes "=:")) (Ok global_copula) (Err fault.Spelling))
 
+abbrev pub name_item : Option NameParts → Result WordTree Fault
+name_item (Some n) = Ok (name n)
+name_item None = Err fault.Spelling
+
 -- A word of another class isn't executed yet.
 abbrev pub item_as : Class → List ℕ → Result WordTree Fault
 item_as class.Number text = noun_item (noun text)
@@ -57,10 +62,10 @@ item_as class.Verb text = verb_item (primitive_of text)
 item_as class.Adverb text = adverb_item (modifier_of text)
 item_as class.Conjunction text = conjunction_item (modifier_of text)
 item_as class.Copula text = copula_item text
+item_as class.Name text = name_item (name_of text)
 item_as class.Open text = Ok open_mark
 item_as class.Close text = Ok close_mark
 item_as class.Text text = Err fault.Nonce
-item_as class.Name text = Err fault.Nonce
 item_as class.NounWord text = Err fault.Nonce
 item_as class.Control text = Err fault.Nonce
 

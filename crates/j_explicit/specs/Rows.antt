@@ -1,10 +1,11 @@
 -- Words of sentences, as rows worked out by hand name them.
-use Rattle.std.specs.Prelude.{ℤ, List, [], ◌∷◌, map, length}
+use Rattle.std.specs.Prelude.{ℕ, ℤ, List, [], ◌∷◌, map, length}
 use Rattle.j_definitions.specs.Array.{number}
 use Rattle.j_definitions.specs.declared.Kind.TheVariants.{Number}
 use Rattle.j_leaves.specs.declared.primitive.Primitive.{Primitive}
 use Rattle.j_leaves.specs.declared.modifier.Modifier.{Modifier}
-use Rattle.j_entity.specs.Tree.{WordTree, entity, a_noun, a_verb, a_conjunction, primitive, modifier}
+use Rattle.j_leaves.specs.declared.name.Place.TheVariants.{Here}
+use Rattle.j_entity.specs.Tree.{WordTree, entity, name, a_noun, a_verb, a_conjunction, primitive, modifier}
 
 abbrev pub atom : ℤ → WordTree
 atom z = entity (a_noun (record { kind = Number; shape = []; atoms = number z ∷ [] }))
@@ -17,3 +18,7 @@ verb p = entity (a_verb (primitive p))
 
 abbrev pub conjunction : Modifier → WordTree
 conjunction m = entity (a_conjunction (modifier m))
+
+-- a name that is no locative
+abbrev pub simple : List ℕ → WordTree
+simple bytes = name (record { base = bytes; place = Here })

@@ -1,15 +1,16 @@
 // The words of a sentence, each by its class.
 ghost use Rattle.std.specs.Prelude.{◌≡◌, length, IfOk, IfErr};
 ghost use Rattle.j_entity.specs.Tree.{modifier};
+ghost use Rattle.j_leaves.specs.Names.{name_of};
 ghost use Rattle.j_leaves.specs.Spelling.{primitive_of, modifier_of};
 ghost use Rattle.j_numbers.specs.Literals.{noun};
 ghost use Rattle.j_words.specs.Lines.{IsWithin};
-ghost use Rattle.j_explicit.specs.Reading.{noun_item, verb_item, adverb_item, conjunction_item, copula_item, item_of, text_of};
+ghost use Rattle.j_explicit.specs.Reading.{noun_item, verb_item, adverb_item, conjunction_item, copula_item, name_item, item_of, text_of};
 ghost use Rattle.j_explicit.specs.Refusals.{IsItem};
 
 use crate::fault::{LineFault, of_number};
 use j_entity::{Entity, Item, Operator, OperatorParts, Parts, Verb};
-use j_leaves::{Modifier, Primitive};
+use j_leaves::{Modifier, Name, Primitive};
 use j_noun::Fault;
 use j_numbers::read_noun;
 use j_words::{Class, Word};
@@ -75,6 +76,16 @@ fn copula_item(text: &[u8]) -> Result<Item, LineFault>
     }
 }
 
+fn name_item(alloc: Global, text: &[u8]) -> Result<Item, LineFault>
+    ensures { IsItem (name_item (name_of text.now)) result }
+{
+    match Name::read(alloc, text) {
+        Ok(Some(name)) => Ok(Item::Name(name)),
+        Ok(None) => Err(LineFault::Fault(Fault::Spelling)),
+        Err(_) => Err(LineFault::NoMemory),
+    }
+}
+
 /// The bytes of a word.
 fn text_of(line: &[u8], word: Word) -> &[u8]
     requires { IsWithin (length line.now) word }
@@ -95,10 +106,9 @@ pub(crate) fn read_item(alloc: Global, line: &[u8], word: Word) -> Result<Item, 
         Class::Adverb => adverb_item(alloc, text),
         Class::Conjunction => conjunction_item(alloc, text),
         Class::Copula => copula_item(text),
+        Class::Name => name_item(alloc, text),
         Class::Open => Ok(Item::Open),
         Class::Close => Ok(Item::Close),
-        Class::Text | Class::Name | Class::NounWord | Class::Control => {
-            Err(LineFault::Fault(Fault::Nonce))
-        }
+        Class::Text | Class::NounWord | Class::Control => Err(LineFault::Fault(Fault::Nonce)),
     }
 }

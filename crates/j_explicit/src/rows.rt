@@ -1,12 +1,13 @@
 // Lines worked out by hand, and what holds of every word.
-ghost use Rattle.std.specs.Prelude.{ℕ, List, ◌≡◌, ◌≢◌, ◌∷◌, [], codes, pos, negsuc, Ok, Err};
+ghost use Rattle.std.specs.Prelude.{ℕ, List, ◌≡◌, ◌≢◌, ◌∷◌, [], codes, pos, negsuc, IsTrue, Ok, Err};
 ghost use Rattle.j_definitions.specs.declared.Fault.TheVariants as fault;
-ghost use Rattle.j_words.specs.Vocabulary.{look_up, class_or_name};
+ghost use Rattle.j_words.specs.Vocabulary.{look_up, class_or_name, is_simple_name};
+ghost use Rattle.j_words.specs.declared.Class.TheVariants as class;
 ghost use Rattle.j_leaves.specs.declared.primitive.Primitive.TheVariants as p;
 ghost use Rattle.j_leaves.specs.declared.modifier.Modifier.TheVariants as m;
 ghost use Rattle.j_entity.specs.Tree.{local_copula, global_copula, open_mark, close_mark};
 ghost use Rattle.j_explicit.specs.Reading.{item_as, reading};
-ghost use Rattle.j_explicit.specs.Rows.{atom, list, verb, conjunction};
+ghost use Rattle.j_explicit.specs.Rows.{atom, list, verb, conjunction, simple};
 
 /// Laws: lines worked out by hand.
 pub fn worked_rows()
@@ -20,15 +21,23 @@ pub fn worked_rows()
     ensures local { reading (codes "3=.4 _1") ≡ Ok (atom (pos 3) ∷ local_copula ∷ list (pos 4 ∷ negsuc 0 ∷ []) ∷ []) }
     ensures unlike_parentheses { reading (codes ")(") ≡ Ok (close_mark ∷ open_mark ∷ []) }
     ensures no_words { reading (codes "  NB. +") ≡ Ok [] }
-    ensures name { reading (codes "f 1") ≡ Err fault.Nonce }
+    ensures name { reading (codes "f 1") ≡ Ok (simple (codes "f") ∷ atom (pos 1) ∷ []) }
+    ensures assigned { reading (codes "a_1=:+") ≡ Ok (simple (codes "a_1") ∷ global_copula ∷ verb p.Plus ∷ []) }
+    ensures direct_locative { reading (codes "f_z_ 1") ≡ Err fault.Nonce }
+    ensures object_locative { reading (codes "f__z 1") ≡ Err fault.Nonce }
+    ensures no_name { reading (codes "f_ 1") ≡ Err fault.Spelling }
+    ensures text { reading (codes "f =: 'abc'") ≡ Err fault.Nonce }
+    ensures noun_word { reading (codes "f =: a.") ≡ Err fault.Nonce }
+    ensures control { reading (codes "f =: if.") ≡ Err fault.Nonce }
     ensures letter { reading (codes "1x") ≡ Err fault.IllFormed }
     ensures infinite { reading (codes "1 _") ≡ Err fault.IllFormed }
     ensures left_to_right { reading (codes "1x f 1e19") ≡ Err fault.IllFormed }
+    ensures behind_names { reading (codes "f 1e19 1 + f 2x") ≡ Err fault.Overflow }
     ensures words_first { reading (codes "1x f abc.") ≡ Err fault.Spelling }
 {}
 
-/// Laws: no word of the vocabulary, let through now or only later, is misspelled as what its class says.
-#[tactic(auto, using(crate::proofs::Known::spelled))]
+/// Laws: no word of the vocabulary, let through now or only later, is misspelled as what its class says; and a simple name is the name of its bytes.
 pub fn spelling_laws()
-    ensures { (w : List ℕ) → item_as (class_or_name (look_up w)) w ≢ Err fault.Spelling }
+    ensures words { (w : List ℕ) → class_or_name (look_up w) ≢ class.Name → item_as (class_or_name (look_up w)) w ≢ Err fault.Spelling }
+    ensures names { (w : List ℕ) → IsTrue (is_simple_name w) → item_as class.Name w ≡ Ok (simple w) }
 {}

@@ -20,6 +20,7 @@ fn reads_lines(rt: HostRuntime) -> Result<(), Fail> {
     assert_eq!(rt; count(alloc, b"5 (+ - *) 3 4")?, 7);
     assert_eq!(rt; count(alloc, b"_3: =. @:")?, 3);
     assert_eq!(rt; count(alloc, b"NB. nothing")?, 0);
+    assert_eq!(rt; count(alloc, b"sum =: + 1 2")?, 4);
     Ok(())
 }
 
@@ -33,7 +34,7 @@ fn fails(rt: &impl Abort, alloc: Global, line: &[u8], fault: Fault)
 #[test]
 fn tells_faults(rt: HostRuntime) {
     let alloc = rt.alloc();
-    fails(&rt, alloc, b"f 1", Fault::Nonce);
+    fails(&rt, alloc, b"f_z_ 1", Fault::Nonce);
     fails(&rt, alloc, b"1x", Fault::IllFormed);
     fails(&rt, alloc, b"+ 1e19", Fault::Overflow);
     fails(&rt, alloc, b"abc.", Fault::Spelling);

@@ -36,8 +36,4 @@ pub fn run_in_memory(
 }
 
 #[cfg(test)]
-mod lines;
-#[cfg(test)]
 mod tests;
-#[cfg(test)]
-mod trains;

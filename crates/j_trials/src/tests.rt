@@ -2,9 +2,7 @@ ghost use Rattle.std.specs.Prelude.{◌≡◌, ◌<◌};
 
 use crate::{run_in_memory, run_surely};
 use j_cli::run_command;
-use j_eval::{Entity, Machine, Outcome, prepare};
 use j_io::{MemorySink, MemorySource};
-use j_noun::{Atoms, Noun, Scalar, Shape};
 use std::alloc::Global;
 use std::process::Abort;
 use std::test::Fail;
@@ -73,15 +71,16 @@ fn run_script<'a>(
 // The first line that a byte alone, doubled or after a letter shows, where no number is shown.
 fn shown_for(byte: u8) -> [&'static [u8]; 3] {
     match byte {
-        b'\t' | b'\n' | b' ' => [b"", b"", b"|nonce error"],
+        b'\t' | b'\n' | b' ' => [b"", b"", b"|value error"],
         b'\'' => [b"|open quote", b"|nonce error", b"|open quote"],
         b'_' => [
             b"|ill-formed number",
             b"|ill-formed number",
             b"|spelling error",
         ],
-        b'+' | b'-' | b'*' | b'[' | b']' => [b"verb\n", b"verb\n", b"|nonce error"],
-        b'(' | b')' => [b"|syntax error", b"|syntax error", b"|nonce error"],
+        b'+' | b'-' | b'*' | b'[' | b']' => [b"verb\n", b"verb\n", b"verb\n"],
+        b'(' | b')' => [b"|syntax error", b"|syntax error", b"|syntax error"],
+        b'a'..=b'z' | b'A'..=b'Z' => [b"|value error", b"|value error", b"|value error"],
         33..=126 => [b"|nonce error", b"|nonce error", b"|nonce error"],
         _ => [b"|spelling error", b"|spelling error", b"|spelling error"],
     }
@@ -108,7 +107,13 @@ fn every_byte(rt: HostRuntime) -> Result<(), Fail> {
             doubled,
             status_of(doubled),
         )?;
-        run_long(&rt, alloc, vec![in alloc; b'a', byte]?, after_letter, 3)?;
+        run_long(
+            &rt,
+            alloc,
+            vec![in alloc; b'a', byte]?,
+            after_letter,
+            status_of(after_letter),
+        )?;
     }
     Ok(())
 }
@@ -165,7 +170,7 @@ fn scripts(rt: HostRuntime) -> Result<(), Fail> {
         (b"abc.\n", b"|spelling error\n|   abc.\n", 3),
         (b"%: 4\n", b"|nonce error\n|   %: 4\n", 3),
         (b"3x %: 4\n", b"|nonce error\n|   3x %: 4\n", 3),
-        (b"abc =: 4\n", b"|nonce error\n|   abc =: 4\n", 3),
+        (b"abc =: 4\n", b"", 0),
         (b"1 2 +\n", b"|syntax error\n|   1 2 +\n", 3),
         (b"3-4 NB. '\n", b"_1\n", 0),
         (
@@ -266,7 +271,7 @@ fn faults_of_the_outside(rt: HostRuntime) -> Result<(), Fail> {
 }
 
 // Runs a long text, and tells how what it writes begins.
-pub(crate) fn run_long(
+fn run_long(
     rt: &impl Abort,
     alloc: Global,
     text: Vec<u8>,
@@ -289,7 +294,7 @@ pub(crate) fn run_long(
 }
 
 // So many times a text.
-pub(crate) fn repeated(alloc: Global, text: &[u8], count: usize) -> Result<Vec<u8>, Fail> {
+fn repeated(alloc: Global, text: &[u8], count: usize) -> Result<Vec<u8>, Fail> {
     let mut all = Vec::new(alloc);
     for _ in 0..count {
         all.extend_from_slice(text)?;
@@ -319,59 +324,5 @@ fn sure_runs(rt: HostRuntime) -> Result<(), Fail> {
     let words = Vec::new(alloc);
     assert_eq!(rt; run_surely(alloc, &words, b"1 2 3 + 10".to_vec(alloc)?), 0);
     assert_eq!(rt; run_surely(alloc, &words, b"1 2 3 + 1 2".to_vec(alloc)?), 3);
-    Ok(())
-}
-
-#[test]
-fn machine_counts_steps(rt: HostRuntime) -> Result<(), Fail> {
-    let alloc = rt.alloc();
-    let mut machine = Machine::new(alloc, 5).ok().ok_or("a machine")?;
-    let lines: [(&[u8], &[u8], u64); 2] = [
-        (b"2 * 3 4 - 1", b"4 6\n", 3),
-        (b"- 5 _6", b"_5 6\n", 5),
-    ];
-    for (line, shown, steps) in &lines {
-        assert!(rt; line.len() <= 16_777_216);
-        let sentence = prepare(alloc, line).ok().ok_or("a sentence")?;
-        assert!(rt; sentence.count() > 0);
-        let outcome = machine.sentence(&sentence);
-        assert!(rt; matches!(&outcome, Outcome::Value(Entity::Noun(_))));
-        assert_eq!(rt; machine.shown(), *shown);
-        assert_eq!(rt; machine.steps(), *steps);
-    }
-    let sentence = prepare(alloc, b"7").ok().ok_or("a sentence")?;
-    assert!(rt; sentence.count() > 0);
-    for _ in 0..2 {
-        let outcome = machine.sentence(&sentence);
-        assert!(rt; matches!(&outcome, Outcome::Spent));
-        assert_eq!(rt; machine.shown(), b"".as_slice());
-        assert_eq!(rt; machine.steps(), 5);
-    }
-    Ok(())
-}
-
-#[test]
-fn nouns_and_verbs(rt: HostRuntime) -> Result<(), Fail> {
-    let alloc = rt.alloc();
-    let mut shape = Shape::new();
-    assert!(rt; shape.add(2).is_ok());
-    let numbers = vec![in alloc; 3i64, 4]?;
-    prove!(numbers.len() == 2);
-    let list = Noun::make(alloc, shape, Atoms::Wholes(numbers))
-        .ok()
-        .ok_or("a list")?;
-    let sum = j_kernels::dyad(Scalar::Plus, alloc, &list, &Noun::number(10))
-        .ok()
-        .ok_or("a sum")?;
-    let less = j_kernels::dyad(Scalar::Minus, alloc, &sum, &Noun::number(10))
-        .ok()
-        .ok_or("a difference")?;
-    assert!(rt; less.matches(&list));
-    let negative = j_kernels::monad(Scalar::Minus, alloc, &less)
-        .ok()
-        .ok_or("a negative")?;
-    assert!(rt; !negative.matches(&list.duplicate().ok().ok_or("a copy")?));
-    assert_eq!(rt; list.tally(), 2);
-    assert_eq!(rt; list.order_items(0, 1), std::cmp::Ordering::Less);
     Ok(())
 }

@@ -1,0 +1,93 @@
+// Steps of sentences with names, worked out by hand.
+use j_eval::{Machine, Outcome, prepare};
+use std::alloc::Global;
+use std::process::Abort;
+use std::test::Fail;
+
+// Executes lines one after another where a budget is given: whether the last one found it spent, the steps counted, and whether the last one shows that.
+fn run(
+    rt: &impl Abort,
+    alloc: Global,
+    lines: &str,
+    budget: u64,
+    shown: &str,
+) -> Result<(bool, u64, bool), Fail> {
+    let mut machine = Machine::new(alloc, budget).ok().ok_or("a machine")?;
+    let mut spent = false;
+    for line in lines.split('\n') {
+        assert!(rt; !spent);
+        assert!(rt; line.len() <= 16_777_216);
+        let sentence = prepare(alloc, line.as_bytes()).ok().ok_or("a sentence")?;
+        assert!(rt; sentence.count() > 0);
+        let outcome = machine.sentence(&sentence);
+        spent = matches!(&outcome, Outcome::Spent);
+    }
+    Ok((spent, machine.steps(), machine.shown() == shown.as_bytes()))
+}
+
+#[test]
+fn names(rt: HostRuntime) -> Result<(), Fail> {
+    let alloc = rt.alloc();
+    // Lines, the steps of all, and what the last one shows. A look-up is a step for each cell.
+    let rows: [(&str, u64, &str); 26] = [
+        ("f =: +", 2, ""),
+        ("(a =: 5)", 3, "5\n"),
+        ("3 + a =: 5", 3, "8\n"),
+        ("a =: b =: 2", 3, ""),
+        ("a =: b =: 2\na + b", 5, "4\n"),
+        // the sentence, row 0 and three look-ups
+        ("f =: +\nf 1 2 3", 7, "1 2 3\n"),
+        ("f =: -\n1 2 3 f 10", 7, "_9 _8 _7\n"),
+        ("f =: ]\nf 1 2 3", 5, "1 2 3\n"),
+        ("q", 1, ""),
+        ("q 1", 3, ""),
+        ("q 1 2 3", 3, ""),
+        ("h =: k", 2, ""),
+        ("f g =: 3", 4, ""),
+        ("(f) =: 3", 2, ""),
+        ("f =: 5\n(f) =: 3", 5, ""),
+        ("a =: 1 2 +", 2, ""),
+        ("f =:", 1, ""),
+        ("5 =: 3", 2, ""),
+        // lengths are told before the first look-up, and the first cell's fault is the last look-up
+        ("f =: +\n1 2 f 1 2 3", 4, ""),
+        ("f =: +\n9223372036854775807 1 f 1 2", 5, ""),
+        // rows 5 and 7, and then look-ups of v, or of g and f
+        ("a =: 5\nv =: a + ]\na =: 6\nv 1", 10, "6\n"),
+        ("f =: +\ng =: 10 f ]\nf =: -\ng 3", 11, "7\n"),
+        // a name has the ranks with which it was moved
+        ("f =: ]\ng =: f @: [\nf =: +\ng 1 2 3", 11, "1 2 3\n"),
+        ("f =: +\ng =: f @: [\nf =: ]\ng 1 2 3", 13, "1 2 3\n"),
+        // 1,000 levels, of one look-up each, and 500 of a look-up and a verb of height 1
+        ("f =: f\nf 1", 1004, ""),
+        ("f =: g @: ]\ng =: f @: ]\nf 1", 508, ""),
+    ];
+    for (lines, steps, shown) in &rows {
+        assert!(rt; *steps > 0);
+        let expected = (false, *steps, true);
+        assert_eq!(rt;
+            run(&rt, alloc, *lines, *steps, *shown)?,
+            expected,
+            "{lines}"
+        );
+        let expected = (true, *steps - 1, true);
+        assert_eq!(rt;
+            run(&rt, alloc, *lines, *steps - 1, "")?,
+            expected,
+            "{lines}"
+        );
+    }
+    Ok(())
+}
+
+// Each name applies the one before it twice.
+#[test]
+fn doubling(rt: HostRuntime) -> Result<(), Fail> {
+    let alloc = rt.alloc();
+    let lines = "a =: ]\nb =: a @: a\nc =: b @: b\nd =: c @: c\ne =: d @: d\ne 7";
+    // two steps, four times three, then the sentence, row 0, and 1, 2, 4, 8 and 16 look-ups
+    assert_eq!(rt; run(&rt, alloc, lines, 1000, "7\n")?, (false, 47, true));
+    assert_eq!(rt; run(&rt, alloc, lines, 46, "")?, (true, 46, true));
+    assert_eq!(rt; run(&rt, alloc, lines, 17, "")?, (true, 17, true));
+    Ok(())
+}
