@@ -2,6 +2,7 @@
 use Rattle.std.proofs.Common.{◌≡◌, List, ℕ, ◌++◌, [], ◌∷◌, Option, refl, ap, sym, subst, ◌∙◌, append_assoc}
 use Rattle.std.proofs.lemmas.List.{append-nil}
 use Rattle.j_io.specs.Outside.{Grew, GrewByPrefix}
+use Rattle.j_names.specs.Names.{NameMap}
 use Rattle.j_cli.specs.Run.{RunState, End, going, stopped, spent, next, run_after, pieces, turn_at}
 use Rattle.j_cli.specs.Halts.{Ran, HaltsIn}
 use Rattle.j_cli.specs.declared.halt.Halt.{Halt}
@@ -24,14 +25,14 @@ HasEnded going = ⊥
 HasEnded stopped = Unit {0}
 HasEnded spent = Unit {0}
 
-ended_at : (e : End) (steps : ℕ) (line : List ℕ) → HasEnded e → turn_at e steps line ≡ record { state = record { steps = steps; end = e }; piece = [] }
-ended_at going steps line h = absurd h
-ended_at stopped steps line h = refl
-ended_at spent steps line h = refl
+ended_at : (e : End) (steps : ℕ) (names : NameMap) (line : List ℕ) → HasEnded e → turn_at e steps names line ≡ record { state = record { steps = steps; names = names; end = e }; piece = [] }
+ended_at going steps names line h = absurd h
+ended_at stopped steps names line h = refl
+ended_at spent steps names line h = refl
 
 ended_next : (run : RunState) (line : List ℕ) → HasEnded run.end → next run line ≡ record { state = run; piece = [] }
 unfolding next
-ended_next run line h = ended_at run.end run.steps line h
+ended_next run line h = ended_at run.end run.steps run.names line h
 
 ended_stays : (run : RunState) (ls : List (List ℕ)) → HasEnded run.end → run_after run ls ≡ run
 ended_stays run [] h = refl

@@ -19,7 +19,7 @@ number_of TooLong = 7
 
 -- the run that a machine is in while it goes on
 abbrev pub run_of : Running → RunState
-run_of m = record { steps = m.state.steps; end = going }
+run_of m = record { steps = m.state.steps; names = m.state.names; end = going }
 
 -- These lines were executed, the pieces were written, and the run is at this end.
 pub record Ran (run : RunState) (lines : List (List ℕ)) (old new : Option (List ℕ)) (at : End) : Type 0 where

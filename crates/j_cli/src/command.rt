@@ -1,5 +1,5 @@
 // The top call.
-ghost use Rattle.std.specs.Prelude.{◌≡◌, ◌≢◌, ◌⊎◌, ◌≤◌, ℕ, List, None, Some, IfSome, IsSome, IsErrOf, option_map, string_bytes};
+ghost use Rattle.std.specs.Prelude.{◌≡◌, ◌⊎◌, ◌≤◌, ℕ, List, None, Some, IfSome, IsSome, IsErrOf, option_map, string_bytes};
 ghost use Rattle.j_io.specs.Outside.{Grew, Rose, text_under};
 ghost use Rattle.j_cli.specs.Answer.{answer, answer_on, request_of, words_of, IsAnswer};
 ghost use Rattle.j_cli.specs.Halts.{BlamesRead, BlamesWrite, EndsAs, ReadWithin};
@@ -27,7 +27,6 @@ fn run_text<S: Source, K: Sink>(alloc: Global, source: &mut S, sink: &mut K) -> 
     ensures read { BlamesRead (S.faults source.old) (S.faults source.new) result }
     ensures write { BlamesWrite (K.faults sink.old) (K.faults sink.new) result }
     ensures not_refused { IsErrOf result Halt.Refused → ⊥ }
-    ensures unspent { IsErrOf result Halt.Spent → ⊥ }
 {
     let text = read_text(alloc, source)?;
     let Ok(mut machine) = Machine::new(alloc, BUDGET) else {
@@ -53,7 +52,6 @@ fn run_file<S: Source, K: Sink>(
     ensures read { BlamesRead (S.faults source.old) (S.faults source.new) result }
     ensures write { BlamesWrite (K.faults sink.old) (K.faults sink.new) result }
     ensures not_refused { IsErrOf result Halt.Refused → ⊥ }
-    ensures unspent { IsErrOf result Halt.Spent → ⊥ }
 {
     if source.select(file).is_err() {
         return Err(Halt::ReadFault);
@@ -105,8 +103,11 @@ pub fn run_command<S: Source, K: Sink>(
     // A write fault comes only where the sink had one.
     ensures write_fault { result ≡ 6 → Rose (K.faults sink.old) (K.faults sink.new) }
 
-    // No text within the limit needs more steps than there may be.
-    ensures unspent { result ≢ 4 }
+    // An error is reported only where it stops the run.
+    ensures stopped { result ≡ 3 → IfSome (S.texts source.old) (λ held. (answer (words_of words.now.items) held).status ≡ 3) }
+
+    // The budget is reported spent only where the run's steps are.
+    ensures spent { result ≡ 4 → IfSome (S.texts source.old) (λ held. (answer (words_of words.now.items) held).status ≡ 4) }
 
     // The source wasn't used, or the name that was asked for is selected.
     ensures outside { (source.new ≡ source.old) ⊎ Used (request_of (words_of words.now.items)) (S.texts source.old) (S.selected source.new) (S.left source.new) }

@@ -1,5 +1,5 @@
 // The lines of a text are executed one after another.
-ghost use Rattle.std.specs.Prelude.{◌≡◌, ◌<◌, ◌≤◌, ◌+◌, ◌∷◌, [], ℕ, List, Option, Some, OnOk, IsErr, IfErr, IsErrOf, ◌⊎◌, length};
+ghost use Rattle.std.specs.Prelude.{◌≡◌, ◌<◌, ◌≤◌, ◌∷◌, [], ℕ, List, Option, Some, OnOk, IsErr, IfErr, IsErrOf, ◌⊎◌, length};
 ghost use Rattle.j_io.specs.Outside.{Rose};
 ghost use Rattle.std.specs.Str.Lines.{strip_carriage_return};
 ghost use Rattle.j_eval.specs.Meets.{ready};
@@ -34,7 +34,6 @@ fn first_line(text: &[u8]) -> (&[u8], &[u8])
     ensures lines { lines_of text.now ≡ result.0.now ∷ lines_of result.1.now }
     ensures within { length result.0.now ≤ length text.now }
     ensures shorter { length result.1.now < length text.now }
-    ensures room { 0 < length result.1.now → length result.0.now + 1 + length result.1.now ≤ length text.now }
 {
     match memchr(b'\n', text) {
         Some(end) => (without_return(&text[..end]), &text[end + 1..]),
@@ -52,12 +51,10 @@ fn run_batches<K: Sink>(
 ) -> Result<(), Halt>
     requires ready { machine.old.readiness ≡ ready }
     requires budget { machine.old.state.budget ≡ budget }
-    requires room { machine.old.state.steps + length text.now + 1 ≤ budget }
     requires limit { length text.now ≤ limit }
     requires none { out.old.items ≡ [] }
     ensures ok { OnOk result (Handed (K.bytes sink.old) (K.bytes sink.new) out.new.items (λ total. Ran (run_of machine.old) (lines_of text.now) (Some []) (Some total) going)) }
     ensures err { IfErr result (λ halt. HaltsBatched halt (run_of machine.old) (lines_of text.now) (K.bytes sink.old) (K.bytes sink.new) out.new.items) }
-    ensures unspent { IsErrOf result Halt.Spent → ⊥ }
     ensures cause { BlamesWrite (K.faults sink.old) (K.faults sink.new) result }
 {
     let mut rest = text;
@@ -77,7 +74,6 @@ fn halted<K: Sink>(halt: Halt, out: &mut Vec<u8>, sink: &mut K) -> Result<(), Ha
     ensures stops { IsErr result }
     ensures err { (run : RunState) (lines : List (List ℕ)) (old : Option (List ℕ)) → HaltsBatched halt run lines old (K.bytes sink.old) out.old.items
         → IfErr result (λ h. HaltsIn h run lines old (K.bytes sink.new)) }
-    ensures unspent { IsErrOf result Halt.Spent → halt ≡ Halt.Spent }
     ensures later { K.faults sink.old ≤ K.faults sink.new }
     ensures cause { IsErrOf result Halt.WriteFault → (halt ≡ Halt.WriteFault) ⊎ Rose (K.faults sink.old) (K.faults sink.new) }
 {
@@ -97,11 +93,9 @@ pub fn run_lines<K: Sink>(
 ) -> Result<(), Halt>
     requires ready { machine.old.readiness ≡ ready }
     requires budget { machine.old.state.budget ≡ budget }
-    requires room { machine.old.state.steps + length text.now + 1 ≤ budget }
     requires limit { length text.now ≤ limit }
     ensures ok { OnOk result (Ran (run_of machine.old) (lines_of text.now) (K.bytes sink.old) (K.bytes sink.new) going) }
     ensures err { IfErr result (λ halt. HaltsIn halt (run_of machine.old) (lines_of text.now) (K.bytes sink.old) (K.bytes sink.new)) }
-    ensures unspent { IsErrOf result Halt.Spent → ⊥ }
     ensures cause { BlamesWrite (K.faults sink.old) (K.faults sink.new) result }
 {
     let mut out = Vec::new(alloc);

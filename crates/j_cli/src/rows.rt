@@ -1,6 +1,8 @@
 // Rows worked out by hand.
 ghost use Rattle.std.specs.Prelude.{◌≡◌, ◌++◌, ◌∷◌, [], codes};
-ghost use Rattle.j_cli.specs.Rows.{run_on};
+ghost use Rattle.std.specs.FinMap as map;
+ghost use Rattle.j_cli.specs.Run.{going, spent, pieces, run_after};
+ghost use Rattle.j_cli.specs.Rows.{run_on, nearly_spent};
 
 /// Laws: rows worked out by hand.
 pub fn worked_rows()
@@ -37,4 +39,13 @@ pub fn worked_rows()
         ≡ record { bytes = codes "|domain error" ++ 10 ∷ codes "|   2 ([ - +) 3 =: 4" ++ 10 ∷ []; status = 3 } }
     ensures last_carriage_return { run_on (codes "1" ++ 13 ∷ [])
         ≡ record { bytes = codes "|spelling error" ++ 10 ∷ codes "|   1" ++ 13 ∷ 10 ∷ []; status = 3 } }
+{}
+
+/// Laws: a run with two steps left, worked out by hand.
+pub fn spent_rows()
+    ensures shown_before { pieces nearly_spent (codes "7" ∷ codes "- 5" ∷ codes "8" ∷ []) ≡ codes "7" ++ 10 ∷ [] }
+    ensures spent { run_after nearly_spent (codes "7" ∷ codes "- 5" ∷ codes "8" ∷ []) ≡ record { steps = 100000000; names = map.empty; end = spent } }
+    ensures not_yet_spent { run_after nearly_spent (codes "- 5" ∷ []) ≡ record { steps = 100000000; names = map.empty; end = going } }
+    ensures without_words { pieces nearly_spent (codes "- 5" ∷ codes "  " ∷ codes "8" ∷ []) ≡ codes "_5" ++ 10 ∷ [] }
+    ensures error_unspent { pieces nearly_spent (codes "- 5" ∷ codes "abc. 4" ∷ []) ≡ codes "_5" ++ 10 ∷ codes "|spelling error" ++ 10 ∷ codes "|   abc. 4" ++ 10 ∷ [] }
 {}

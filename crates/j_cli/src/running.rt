@@ -1,5 +1,5 @@
 // A line is executed, and what it shows is gathered.
-ghost use Rattle.std.specs.Prelude.{◌≡◌, ◌≤◌, ◌+◌, ◌∷◌, [], Some, OnOk, IsErr, IfErr, IsErrOf, length};
+ghost use Rattle.std.specs.Prelude.{◌≡◌, ◌≤◌, ◌∷◌, [], Some, OnOk, IsErr, IfErr, IsErrOf, length};
 ghost use Rattle.j_io.specs.Outside.{Grew};
 ghost use Rattle.j_eval.specs.Meets.{ready};
 ghost use Rattle.j_cli.specs.Run.{budget, going, run_after};
@@ -44,15 +44,12 @@ pub fn execute(
 ) -> Result<(), Halt>
     requires ready { machine.old.readiness ≡ ready }
     requires budget { machine.old.state.budget ≡ budget }
-    requires room { machine.old.state.steps + length line.now + 1 ≤ budget }
     requires limit { length line.now ≤ limit }
     ensures ready { OnOk result (machine.new.readiness ≡ ready) }
     ensures budget { OnOk result (machine.new.state.budget ≡ budget) }
-    ensures steps { OnOk result (machine.new.state.steps ≤ machine.old.state.steps + length line.now + 1) }
     ensures ok { OnOk result ((run_of machine.new ≡ run_after (run_of machine.old) (line.now ∷ []))
         × Ran (run_of machine.old) (line.now ∷ []) (Some out.old.items) (Some out.new.items) going) }
     ensures err { IfErr result (λ halt. HaltsIn halt (run_of machine.old) (line.now ∷ []) (Some out.old.items) (Some out.new.items)) }
-    ensures unspent { IsErrOf result Halt.Spent → ⊥ }
     ensures unwritten { IsErrOf result Halt.WriteFault → ⊥ }
 {
     let sentence = match prepare(alloc, line) {

@@ -1,2 +1,4 @@
 pub mod Runs
 pub mod Sentences
+pub mod Parts
+pub mod Cells

@@ -8,7 +8,7 @@ use Rattle.j_leaves.specs.declared.ranks.Ranks.{Ranks}
 use Rattle.j_rank.specs.Answers.{limited}
 use Rattle.j_rank.specs.Assembly.{assemble}
 use Rattle.j_rank.specs.Cells.{cell, cell_of_fills}
-use Rattle.j_rank.specs.Plans.{Planned, monad_plan, dyad_plan}
+use Rattle.j_rank.specs.Plans.{Planned, HasCells, monad_plan, dyad_plan}
 use Rattle.j_eval.specs.State.{Run, Outcome, Gave, Erred, Spent, ◌>>=◌, pure, fail, or_fault}
 
 -- the left argument, if there is one, and the right one
@@ -22,6 +22,11 @@ Cells = Option Array × Array
 abbrev pub planned_for : Ranks → Option Array → Array → Result Planned Fault
 planned_for r None y = monad_plan r.monad y.shape
 planned_for r (Some x) y = dyad_plan r.left r.right x.shape y.shape
+
+-- the arguments have the cells of a plan
+abbrev pub HasPairs : Planned → Option Array → Array → Type 0
+HasPairs p None y = HasCells p.right p.agreed.frame y.shape
+HasPairs p (Some x) y = HasCells p.left p.agreed.frame x.shape × HasCells p.right p.agreed.frame y.shape
 
 -- the cells that meet at place k of the frame
 abbrev pub pair : Planned → Option Array → Array → ℕ → Cells
@@ -67,9 +72,13 @@ or_zero (Gave a s) = Gave a s
 or_zero (Erred e s) = Gave (atom_array Number (number (pos 0))) s
 or_zero (Spent s) = Spent s
 
--- what the cells of fills give, or the number 0
+-- what the cells of fills give
+abbrev pub fill_result : Doing → Planned → Doing
+fill_result f p x y = or_fault (fills p x y) >>= on_pair f
+
+-- the same, or the number 0
 abbrev pub without_cells : Doing → Planned → Doing
-without_cells f p x y s = or_zero ((or_fault (fills p x y) >>= on_pair f) s)
+without_cells f p x y s = or_zero (fill_result f p x y s)
 
 abbrev pub on_fills : Doing → Planned → Doing
 on_fills f p x y = do

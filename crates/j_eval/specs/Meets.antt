@@ -3,6 +3,9 @@ use Rattle.std.specs.Prelude.{◌≡◌, Bool, ◌≤◌, ◌<◌, [], length, R
 use Rattle.std.specs.declared.alloc.Global.{Global}
 use Rattle.std.specs.declared.vec.Vec.{Vec}
 use Rattle.j_definitions.specs.Array.{Array}
+use Rattle.j_definitions.specs.declared.Fault.{Fault}
+use Rattle.j_noun.specs.declared.refusal.Refusal.{Refusal}
+use Rattle.j_noun.specs.declared.refusal.Refusal.TheVariants as refusal
 use Rattle.j_entity.specs.Tree.{EntityTree}
 use Rattle.j_entity.specs.View.{entity_of}
 use Rattle.j_entity.specs.declared.entity.Entity.{Entity}
@@ -69,6 +72,19 @@ Meets r m o = MeetsAs (λ a. a) r m o
 
 abbrev pub MeetsAt : {A B : Type 0} → B → Result A Halt → Running → Outcome B → Type 0
 MeetsAt b r m o = MeetsAs (λ _. b) r m o
+
+-- the answer of a part of a run that doesn't look at the state; want of memory may come in place of any answer
+abbrev pub IsPart : {A : Type 0} → Result A Fault → Result A Halt → Type 0
+IsPart r (Ok a) = r ≡ Ok a
+IsPart r (Err (halt.Failed e)) = r ≡ Err e
+IsPart r (Err halt.Spent) = ⊥
+IsPart r (Err halt.NoMemory) = Unit {0}
+
+-- a refusal, as why a run gives nothing
+abbrev pub halted : Result Array Refusal → Result Array Halt
+halted (Ok a) = Ok a
+halted (Err (refusal.Fault e)) = Err (halt.Failed e)
+halted (Err refusal.NoMemory) = Err halt.NoMemory
 
 -- Steps are only counted up, and within a sentence nothing is shown, the budget stays, and so does what the machine is fit for.
 pub record Onward (m n : Running) : Type 0 where

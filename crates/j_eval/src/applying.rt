@@ -1,15 +1,11 @@
 // The application of verbs.
-ghost use Rattle.std.specs.Prelude.{◌≡◌, ◌≤◌, ◌+◌, Some, None, IsErrOf, MatchOption, Result as ResultOf};
+ghost use Rattle.std.specs.Prelude.{◌≡◌, ◌≤◌, ◌+◌, MatchOption};
 ghost use Rattle.std.specs.Option.{option_copied};
-ghost use Rattle.j_definitions.specs.Array.{Array};
-ghost use Rattle.j_definitions.specs.declared.Fault.{Fault as FaultValue};
-ghost use Rattle.j_kernels.specs.Answered.{IsAnswered};
 ghost use Rattle.j_entity.specs.Tree.{fork, noun_fork, hook, derived2};
 ghost use Rattle.j_entity.specs.View.{operand_of};
 ghost use Rattle.j_entity.specs.Heights.{verb_height};
 ghost use Rattle.j_eval.specs.Applying.{apply, call, nested};
-ghost use Rattle.j_eval.specs.State.{or_fault};
-ghost use Rattle.j_eval.specs.Meets.{Running, Meets, Onward};
+ghost use Rattle.j_eval.specs.Meets.{Meets, Onward, halted};
 
 use crate::machine::Machine;
 use crate::outcome::Halt;
@@ -18,9 +14,8 @@ use j_entity::{Modifier, Operand, Tree, Verb};
 use j_noun::{Fault, Noun, Refusal};
 
 // What a verb answers, as a part of a run.
-fn answered(answer: Result<Noun, Refusal>) -> Result<Noun, Halt>
-    ensures gives { (m : Running) (r : ResultOf Array FaultValue) → IsAnswered r answer → Meets result m (or_fault r m.state) }
-    ensures unspent { IsErrOf result Halt.Spent → ⊥ }
+pub fn answered(answer: Result<Noun, Refusal>) -> Result<Noun, Halt>
+    ensures { result ≡ halted answer }
 {
     match answer {
         Ok(y) => Ok(y),
@@ -39,6 +34,7 @@ fn levels_below(room: u32, v: &Verb) -> Option<u32>
 
 impl Machine {
     /// A call of a verb where `room` levels are left.
+    #[cycle(eval)]
     #[tactic(auto, using(crate::proofs::Runs::stack_call))]
     pub(crate) fn call(
         &mut self,
@@ -64,6 +60,7 @@ impl Machine {
     {
         match v.tree() {
             Tree::Primitive(v) => answered(word(self.alloc(), v, x, y)),
+            Tree::Named(name, r) => self.by_ranks(room, name, r, x, y),
             Tree::Fork(f, g, h) => self.fork(room, f, g, h, x, y),
             Tree::NounFork(n, g, h) => {
                 let right = self.apply(room, h, x, y)?;
@@ -75,10 +72,9 @@ impl Machine {
             }
             Tree::Derived(_, _) => Err(Halt::Failed(Fault::Domain)),
             Tree::Derived2(c, u, v) => self.derived(room, c, u, v, x, y),
-            Tree::Named(_, _)
-            | Tree::Explicit(_)
-            | Tree::Explicit1(_, _)
-            | Tree::Explicit2(_, _, _) => Err(Halt::Failed(Fault::Nonce)),
+            Tree::Explicit(_) | Tree::Explicit1(_, _) | Tree::Explicit2(_, _, _) => Err(
+                Halt::Failed(Fault::Nonce),
+            ),
         }
     }
 

@@ -2,6 +2,7 @@
 #![tactic(auto)]
 
 mod applying;
+mod by_rank;
 mod machine;
 mod outcome;
 mod rows;

@@ -2,6 +2,7 @@
 ghost use Rattle.std.specs.Prelude.{◌≡◌, ◌++◌, ◌∷◌, [], Some, None, codes, pos, negsuc};
 ghost use Rattle.j_definitions.specs.declared.Fault.TheVariants as fault;
 ghost use Rattle.j_leaves.specs.declared.primitive.Primitive.TheVariants as p;
+ghost use Rattle.j_names.specs.Names.{NameMap, look};
 ghost use Rattle.j_names.specs.Rows.{f};
 ghost use Rattle.j_entity.specs.Ranks.{endless, of, same};
 ghost use Rattle.j_entity.specs.Tree.{primitive, named, hook, a_noun, a_verb, name, open_mark, close_mark, local_copula, global_copula};
@@ -63,15 +64,14 @@ pub fn name_rows()
         ≡ Gave (a_noun (atom (pos 8))) (knowing (f_is (a_noun (atom (pos 5)))) 3 (codes "8" ++ 10 ∷ [])) }
     ensures in_parentheses { top_of (open_mark ∷ name f ∷ global_copula ∷ noun (atom (pos 5)) ∷ close_mark ∷ [])
         ≡ Gave (a_noun (atom (pos 5))) (knowing (f_is (a_noun (atom (pos 5)))) 3 (codes "5" ++ 10 ∷ [])) }
-    ensures no_value { top_of (name f ∷ []) ≡ Erred fault.Value (after 1 []) }
-    ensures noun_by_value { top (name f ∷ plus ∷ name f ∷ []) (knowing (f_is (a_noun (atom (pos 5)))) 0 [])
-        ≡ Gave (a_noun (atom (pos 10))) (knowing (f_is (a_noun (atom (pos 5)))) 2 (codes "10" ++ 10 ∷ [])) }
-    ensures verb_stays { top (name f ∷ []) (knowing (f_is (a_verb (primitive p.Plus))) 0 [])
-        ≡ Gave (a_verb (named f (same (of 0)))) (knowing (f_is (a_verb (primitive p.Plus))) 1 (codes "verb" ++ 10 ∷ [])) }
-    ensures each_cell { top (name f ∷ noun (list (pos 1 ∷ pos 2 ∷ pos 3 ∷ [])) ∷ []) (knowing (f_is (a_verb (primitive p.Minus))) 0 [])
-        ≡ Gave (a_noun (list (negsuc 0 ∷ negsuc 1 ∷ negsuc 2 ∷ []))) (knowing (f_is (a_verb (primitive p.Minus))) 5 (codes "_1 _2 _3" ++ 10 ∷ [])) }
-    ensures left_of_copula { top (name f ∷ global_copula ∷ name f ∷ []) (after 0 []) ≡ Erred fault.Value (knowing (f_is (a_verb (named f endless))) 2 []) }
-    ensures no_verb { call (nested 9) (named f endless) None (atom (pos 1)) (knowing (f_is (a_noun (atom (pos 5)))) 0 []) ≡ Erred fault.Value (knowing (f_is (a_noun (atom (pos 5)))) 1 []) }
-    ensures itself { call (nested 3) (named f endless) None (atom (pos 1)) (knowing (f_is (a_verb (named f endless))) 0 []) ≡ Erred fault.Stack (knowing (f_is (a_verb (named f endless))) 3 []) }
-    ensures spent { call (nested 9) (named f (same (of 0))) None (list (pos 1 ∷ pos 2 ∷ [])) (knowing (f_is (a_verb (primitive p.Minus))) 99 []) ≡ Spent (knowing (f_is (a_verb (primitive p.Minus))) 100 []) }
+    ensures no_value { (names : NameMap) → look names f ≡ None → top (name f ∷ []) (knowing names 0 []) ≡ Erred fault.Value (knowing names 1 []) }
+    ensures noun_by_value { (names : NameMap) → look names f ≡ Some (a_noun (atom (pos 5))) → top (name f ∷ plus ∷ name f ∷ []) (knowing names 0 [])
+        ≡ Gave (a_noun (atom (pos 10))) (knowing names 2 (codes "10" ++ 10 ∷ [])) }
+    ensures verb_stays { (names : NameMap) → look names f ≡ Some (a_verb (primitive p.Plus)) → top (name f ∷ []) (knowing names 0 [])
+        ≡ Gave (a_verb (named f (same (of 0)))) (knowing names 1 (codes "verb" ++ 10 ∷ [])) }
+    ensures each_cell { (names : NameMap) → look names f ≡ Some (a_verb (primitive p.Minus)) → call (nested 9) (named f (same (of 0))) None (list (pos 1 ∷ pos 2 ∷ [])) (knowing names 0 [])
+        ≡ Gave (list (negsuc 0 ∷ negsuc 1 ∷ [])) (knowing names 2 []) }
+    ensures no_verb { (names : NameMap) → look names f ≡ Some (a_noun (atom (pos 5))) → call (nested 9) (named f endless) None (atom (pos 1)) (knowing names 0 []) ≡ Erred fault.Value (knowing names 1 []) }
+    ensures itself { (names : NameMap) → look names f ≡ Some (a_verb (named f endless)) → call (nested 3) (named f endless) None (atom (pos 1)) (knowing names 0 []) ≡ Erred fault.Stack (knowing names 3 []) }
+    ensures spent { (names : NameMap) → look names f ≡ Some (a_verb (primitive p.Minus)) → call (nested 9) (named f (same (of 0))) None (list (pos 1 ∷ pos 2 ∷ [])) (knowing names 99 []) ≡ Spent (knowing names 100 []) }
 {}

@@ -1,4 +1,4 @@
-use Rattle.std.proofs.Common.{rules, ◌<◌, ◌++◌, [], Some, length, arith}
+use Rattle.std.proofs.Common.{rules, ◌++◌, [], Some, arith}
 use Rattle.std.proofs.lemmas.Result.{err_from_is_err_and}
 use Rattle.j_cli.specs.Run.{lines_of}
 use Rattle.j_cli.specs.Halts.{run_of}
@@ -48,9 +48,6 @@ lines-preserved-in_ok-hand_on g c =
     record {
       ready = search rules;
       budget = search rules;
-      room = λ h.
-          let some : 0 < length c.lines.rest.now = omega (arith, c.first_line.ensures.shorter) in
-          omega (arith, c.first_line.ensures.room h, c.in_ok-execute.ensures.steps, v.room some);
       within = omega (arith, c.first_line.ensures.shorter, v.within);
       written = v.written ++ out;
       grew = grew_then (g.K.Sink.bytes c.args.sink.now) (g.K.Sink.bytes c.lines.sink) (g.K.Sink.bytes c.hand_on.new.sink) v.written out v.grew handed.1;
@@ -66,9 +63,6 @@ lines-preserved g c =
     record {
       ready = search rules;
       budget = search rules;
-      room = λ h.
-          let some : 0 < length c.lines.rest.now = omega (arith, c.first_line.ensures.shorter) in
-          omega (arith, c.first_line.ensures.room h, c.in_ok-execute.ensures.steps, v.room some);
       within = omega (arith, c.first_line.ensures.shorter, v.within);
       written = v.written;
       grew = v.grew;

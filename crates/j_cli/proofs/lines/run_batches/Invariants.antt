@@ -1,4 +1,4 @@
-use Rattle.std.proofs.Common.{◌≡◌, ◌<◌, ◌≤◌, ◌+◌, ◌++◌, [], List, ℕ, Some, length}
+use Rattle.std.proofs.Common.{◌≡◌, ◌≤◌, ◌++◌, [], List, ℕ, Some, length}
 use Rattle.j_io.specs.Outside.{Grew}
 use Rattle.j_eval.specs.Meets.{ready}
 use Rattle.j_cli.specs.Run.{budget, lines_of}
@@ -6,12 +6,11 @@ use Rattle.j_cli.specs.Halts.{run_of}
 use Rattle.j_cli.proofs.Sofar.{IsSofar}
 use Rattle.j_cli.proofs.lines.run_batches.Given as goal
 
--- the lines before the rest were executed, with at most a step for each of their bytes, and what they showed was written or waits
+-- the lines before the rest were executed, and what they showed was written or waits
 abbrev pub invariant-lines : goal.invariant-lines
 invariant-lines g l = record {
   ready : l.machine.readiness ≡ ready;
   budget : l.machine.state.budget ≡ budget;
-  room : 0 < length l.rest → l.machine.state.steps + length l.rest ≤ l.fn.machine.state.steps + length l.text;
   within : length l.rest ≤ length l.text;
   written : List ℕ;
   grew : Grew (g.K.Sink.bytes l.fn.sink) (g.K.Sink.bytes l.sink) written;

@@ -19,32 +19,29 @@ returns-clause-in_parentheses c = refl
 
 pub returns-clause-no_value : goal.returns-clause-no_value
 unfolding digits most_levels by_ranks popped popped_word popped_noun popped_verb popped_operand popped_adverb popped_conjunction
-returns-clause-no_value c = refl
+returns-clause-no_value c = λ names h. rw h (rw h refl)
 
 pub returns-clause-noun_by_value : goal.returns-clause-noun_by_value
 unfolding digits most_levels by_ranks popped popped_word popped_noun popped_verb popped_operand popped_adverb popped_conjunction
-returns-clause-noun_by_value c = refl
+returns-clause-noun_by_value c = λ names h. rw h (rw h refl)
 
 pub returns-clause-verb_stays : goal.returns-clause-verb_stays
 unfolding digits most_levels by_ranks popped popped_word popped_noun popped_verb popped_operand popped_adverb popped_conjunction
-returns-clause-verb_stays c = refl
+returns-clause-verb_stays c = λ names h. rw h (rw h refl)
 
 pub returns-clause-each_cell : goal.returns-clause-each_cell
 unfolding digits most_levels by_ranks popped popped_word popped_noun popped_verb popped_operand popped_adverb popped_conjunction
-returns-clause-each_cell c = refl
-
-pub returns-clause-left_of_copula : goal.returns-clause-left_of_copula
-unfolding digits most_levels by_ranks popped popped_word popped_noun popped_verb popped_operand popped_adverb popped_conjunction
-returns-clause-left_of_copula c = refl
+returns-clause-each_cell c = λ names h. rw h (rw h refl)
 
 pub returns-clause-no_verb : goal.returns-clause-no_verb
 unfolding digits most_levels by_ranks popped popped_word popped_noun popped_verb popped_operand popped_adverb popped_conjunction
-returns-clause-no_verb c = refl
+returns-clause-no_verb c = λ names h. rw h refl
 
 pub returns-clause-itself : goal.returns-clause-itself
 unfolding digits most_levels by_ranks popped popped_word popped_noun popped_verb popped_operand popped_adverb popped_conjunction
-returns-clause-itself c = refl
+returns-clause-itself c = λ names h. rw h (rw h (rw h refl))
 
 pub returns-clause-spent : goal.returns-clause-spent
 unfolding digits most_levels by_ranks popped popped_word popped_noun popped_verb popped_operand popped_adverb popped_conjunction
-returns-clause-spent c = refl
+returns-clause-spent c = λ names h. rw h refl
+

@@ -1,12 +1,11 @@
-use Rattle.std.proofs.Common.{rules, arith, sym, ◌∙◌, ◌≡◌, ◌+◌, ◌-◌, length, map, subst, false, true, Some, None, ap}
-use Rattle.std.proofs.lemmas.List.{length-reverse, length-map}
+use Rattle.std.proofs.Common.{rules, arith, sym, ◌∙◌, ◌≡◌, ◌-◌, length, map, subst, false, true, Some, None, ap}
 use Rattle.j_entity.specs.View.{word_of}
 use Rattle.j_eval.specs.Applying.{nested}
 use Rattle.j_eval.specs.Table.{row_of}
-use Rattle.j_eval.specs.Stack.{stack_of, slot_of}
+use Rattle.j_eval.specs.Stack.{stack_of}
 use Rattle.j_eval.specs.Meaning.{parsed, sentence}
 use Rattle.j_eval.specs.Meets.{MeetsAs, given_of}
-use Rattle.j_eval.proofs.Sentences.{queue_rest, marks, tick_err, reduce_more, reduce_err, item_more, mark_more, queue_end, row_long, still_open}
+use Rattle.j_eval.proofs.Sentences.{queue_rest, marks, tick_err, reduce_more, reduce_err, item_more, mark_more, queue_end, still_open}
 use Rattle.j_eval.proofs.machine.Machine.evaluate.Goals as goal
 
 pub returns-in_err-tick-2-clause-gives : goal.returns-in_err-tick-2-clause-gives

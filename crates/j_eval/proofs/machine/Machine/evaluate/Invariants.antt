@@ -1,4 +1,4 @@
-use Rattle.std.proofs.Common.{◌≡◌, ℕ, ◌+◌, ◌*◌, ◌<◌, ◌≤◌, length, map, true}
+use Rattle.std.proofs.Common.{◌≡◌, ℕ, ◌+◌, ◌*◌, ◌<◌, length, map, true}
 use Rattle.j_entity.specs.View.{word_of}
 use Rattle.j_eval.specs.Applying.{nested}
 use Rattle.j_eval.specs.Meaning.{parsed, sentence}
