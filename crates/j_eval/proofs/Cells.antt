@@ -1,4 +1,4 @@
--- What is left of the cells of a plan, in a loop over them.
+-- Plans, and what is left of their cells in a loop over them.
 use Rattle.std.proofs.Common.{◌≡◌, ℕ, suc, ◌+◌, ◌-◌, ◌<◌, ◌≤◌, List, [], ◌∷◌, ◌++◌, map, Option, Result, Ok, Err, refl, sym, ap, subst, ◌∙◌, append_assoc, append-nil, arith}
 use Rattle.std.specs.List.{range_with_len}
 use Rattle.j_definitions.specs.Array.{Array, product}

@@ -4,18 +4,11 @@ use Rattle.j_definitions.specs.Array.{Array}
 use Rattle.j_definitions.specs.declared.Fault.{Fault}
 use Rattle.j_noun.specs.declared.refusal.Refusal.{Refusal}
 use Rattle.j_noun.specs.declared.refusal.Refusal.TheVariants as refusal
-use Rattle.j_kernels.specs.Answered.{IsAnswered}
 use Rattle.j_rank.specs.Answers.{IsAnswer}
 use Rattle.j_eval.specs.declared.outcome.Halt.{Halt}
 use Rattle.j_eval.specs.declared.outcome.Halt.TheVariants as halt
 use Rattle.j_eval.specs.State.{Outcome, Run, then_do, or_fault}
 use Rattle.j_eval.specs.Meets.{Running, Meets, IsPart, halted}
-
--- the answer of a verb that is one word
-pub meets_answered : (r : Result Array Fault) (a : Result Array Refusal) (m : Running) → IsAnswered r a → Meets (halted a) m (or_fault r m.state)
-meets_answered r (Ok y) m h = ap (λ (r : Result Array Fault). or_fault r m.state) h
-meets_answered r (Err (refusal.Fault e)) m h = ap (λ (r : Result Array Fault). or_fault r m.state) h
-meets_answered r (Err refusal.NoMemory) m h = tt
 
 -- the answer of a call that makes a noun
 pub part_answered : (r : Result Array Fault) (a : Result Array Refusal) → IsAnswer r a → IsPart r (halted a)

@@ -73,7 +73,7 @@ Meets r m o = MeetsAs (λ a. a) r m o
 abbrev pub MeetsAt : {A B : Type 0} → B → Result A Halt → Running → Outcome B → Type 0
 MeetsAt b r m o = MeetsAs (λ _. b) r m o
 
--- the answer of a part of a run that doesn't look at the state; want of memory may come in place of any answer
+-- The answer of a part of a run that doesn't look at the state. Want of memory may come in place of any answer.
 abbrev pub IsPart : {A : Type 0} → Result A Fault → Result A Halt → Type 0
 IsPart r (Ok a) = r ≡ Ok a
 IsPart r (Err (halt.Failed e)) = r ≡ Err e

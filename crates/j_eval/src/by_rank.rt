@@ -3,9 +3,8 @@ ghost use Rattle.std.specs.Prelude.{◌≡◌, ◌<◌, ◌∷◌, [], length, m
 ghost use Rattle.std.specs.Option.{option_copied};
 ghost use Rattle.j_definitions.specs.Array.{Array, product};
 ghost use Rattle.j_rank.specs.Assembly.{assemble};
-ghost use Rattle.j_eval.specs.ByRank.{HasPairs, planned_for, pair, fills, or_zero};
 ghost use Rattle.j_eval.specs.Applying.{named_cell, nested};
-ghost use Rattle.j_eval.specs.ByRank.{by_ranks, by_count, on_cells, on_fills, fill_result};
+ghost use Rattle.j_eval.specs.ByRank.{HasPairs, planned_for, pair, fills, or_zero, by_ranks, by_count, on_cells, on_fills, fill_result};
 ghost use Rattle.j_eval.specs.State.{Outcome};
 ghost use Rattle.j_eval.specs.Meets.{Running, IsPart, Meets, NoMemoryOr, Onward};
 
@@ -121,8 +120,10 @@ impl Machine {
         ensures gives { Meets result self.new (by_ranks r (named_cell (nested room) name.now) (option_copied x.entry) y.now self.old.state) }
         ensures onward { Onward self.old self.new }
     {
-        let plan = planned(r, x, y)?;
-        self.by_plan(room, name, &plan, x, y)
+        match planned(r, x, y) {
+            Ok(plan) => self.by_plan(room, name, &plan, x, y),
+            Err(halt) => Err(halt),
+        }
     }
 
     // A name on the cells of a plan.

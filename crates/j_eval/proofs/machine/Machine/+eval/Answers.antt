@@ -13,14 +13,12 @@ use Rattle.j_eval.proofs.machine.Machine.+eval.Goals as goal
 pub call-returns-in-Some-clause-gives : goal.call-returns-in-Some-clause-gives
 call-returns-in-Some-clause-gives t c = meets_call c.apply.result c.apply.new.self c.args.room c.in-Some.below c.args.v.now (option_copied c.args.x) c.args.y.now c.args.self.now.state c.in-Some.ensures c.apply.ensures.gives
 
-pub by_ranks-returns-in_err-plan-clause-gives : goal.by_ranks-returns-in_err-plan-clause-gives
-by_ranks-returns-in_err-plan-clause-gives t c =
-    let h = ranks_err c.args.r (named_cell (nested c.args.room) c.args.name.now) (option_copied c.args.x) c.args.y.now c.in_err-plan.field-0.0 c.args.self.now c.in_err-plan.ensures.plan in
-    search rules
+pub by_ranks-returns-in-Err-clause-gives : goal.by_ranks-returns-in-Err-clause-gives
+by_ranks-returns-in-Err-clause-gives t c = ranks_err c.args.r (named_cell (nested c.args.room) c.args.name.now) (option_copied c.args.x) c.args.y.now c.in-Err.halt c.args.self.now c.in-Err.ensures.plan
 
-pub by_ranks-returns-clause-gives : goal.by_ranks-returns-clause-gives
-by_ranks-returns-clause-gives t c =
-    ranks_ok c.args.r (named_cell (nested c.args.room) c.args.name.now) (option_copied c.args.x) c.args.y.now c.in_ok-plan.plan c.by_plan.result c.by_plan.new.self c.args.self.now.state c.in_ok-plan.ensures.plan c.by_plan.ensures.gives
+pub by_ranks-returns-in-Ok-clause-gives : goal.by_ranks-returns-in-Ok-clause-gives
+by_ranks-returns-in-Ok-clause-gives t c =
+    ranks_ok c.args.r (named_cell (nested c.args.room) c.args.name.now) (option_copied c.args.x) c.args.y.now c.in-Ok.plan c.by_plan.result c.by_plan.new.self c.args.self.now.state c.in-Ok.ensures.plan c.by_plan.ensures.gives
 
 pub over_cells-loop-k-init : goal.over_cells-loop-k-init
 over_cells-loop-k-init t c =
