@@ -23,47 +23,48 @@ fn chain(
 #[test]
 fn levels(rt: HostRuntime) -> Result<(), Fail> {
     let alloc = rt.alloc();
-    let rows: [(&str, &str, u32, &str, &str); 11] = [
-        // 999 names and `+`
-        ("", "", 999, "a999 5", ""),
-        ("", "", 999, "2 a999 3", ""),
-        ("", "", 1000, "a1000 5", "stack"),
-        ("", "", 1000, "2 a1000 3", "stack"),
-        ("", "", 1000, "a999 5", ""),
-        // two for the verb, 997 names and `+`
-        ("", "", 999, "(] @: a998) 5", ""),
-        ("", "", 999, "(] @: a999) 5", "stack"),
+    // What stands before and after a name in the next one, how many there are, lines that show 5 each, and one with too many levels.
+    let rows: [(&str, &str, u32, &[&str], &str); 5] = [
+        // 999 names and `+`; two for the verb, 997 names and `+`
+        (
+            "",
+            "",
+            1000,
+            &["a999 5", "2 a999 3", "(] @: a998) 5"],
+            "a1000 5",
+        ),
+        ("", "", 1000, &["1 a999 4"], "2 a1000 3"),
+        ("", "", 999, &["a999 5"], "(] @: a999) 5"),
         // one for the name, two for each of the 499 verbs, and `+`
-        ("", " @: ]", 500, "a500 5", ""),
-        ("", " @: ]", 500, "(] @: a500) 5", "stack"),
+        ("", " @: ]", 500, &["a500 5"], "(] @: a500) 5"),
         // one for the name, three for each of the 332 verbs, and `+`
-        ("(", " @: ]) @: ]", 333, "a333 5", ""),
-        ("(", " @: ]) @: ]", 334, "a334 5", "stack"),
+        ("(", " @: ]) @: ]", 334, &["a333 5"], "a334 5"),
     ];
-    for (before, after, count, line, fault) in &rows {
+    for (before, after, count, fine, high) in &rows {
         let mut text = chain(alloc, "+", *before, *after, *count)?;
-        text.push_str(*line)?;
-        if fault.is_empty() {
-            check(&rt, alloc, &text, "5\n", 0)?;
-        } else {
-            let written = format!(in alloc; "|{fault} error\n|   {line}\n")?;
-            check(&rt, alloc, &text, &written, 3)?;
+        let mut written = String::new(alloc);
+        for line in fine.iter() {
+            text.push_str(*line)?;
+            text.push_str("\n")?;
+            written.push_str("5\n")?;
         }
+        text.push_str(*high)?;
+        let report = format!(in alloc; "|stack error\n|   {high}\n")?;
+        written.push_str(&report)?;
+        check(&rt, alloc, &text, &written, 3)?;
     }
     Ok(())
 }
 
-// Each name applies the one before it twice, so the name a40 looks up a1 more than 10 to the 11th times.
+// Each name applies the one before it twice, so the name a10 looks up a1 512 times.
 #[test]
 fn doubling(rt: HostRuntime) -> Result<(), Fail> {
     let alloc = rt.alloc();
     let mut text = String::from_str(alloc, "a1 =: ]\n")?;
-    for k in 1..40u32 {
+    for k in 1..10u32 {
         let line = format!(in alloc; "a{} =: a{k} @: a{k}\n", k + 1)?;
         text.push_str(&line)?;
     }
-    let ends = format!(in alloc; "{text}a10 7\n1 + 1\n")?;
-    check(&rt, alloc, &ends, "7\n2\n", 0)?;
-    let spent = format!(in alloc; "1 + 1\n{text}a40 7\n9\n")?;
-    check(&rt, alloc, &spent, "2\n", 4)
+    text.push_str("a10 7\n1 2 a10 _7\n")?;
+    check(&rt, alloc, &text, "7\n_7\n", 0)
 }
