@@ -318,6 +318,17 @@ fn limits(rt: HostRuntime) -> Result<(), Fail> {
     run_long(&rt, alloc, too_wide, b"|limit error\n|   0 0 0", 3)
 }
 
+// A name of rank 0 is looked up for each number of a list. 23 lines of 4,194,307 steps each leave some of the 100,000,000, and one more line spends them.
+#[test]
+fn budget(rt: HostRuntime) -> Result<(), Fail> {
+    let alloc = rt.alloc();
+    let mut text = b"1 + 1\nf =: +\na =: ".to_vec(alloc)?;
+    text.extend_from_slice(&repeated(alloc, b"7 ", 4_194_304)?)?;
+    text.extend_from_slice(&repeated(alloc, b"\nb =: f a", 23)?)?;
+    text.extend_from_slice(b"\n1 + 2\nf a\n9\n")?;
+    run_script(&rt, alloc, &text, b"2\n3\n", 4)
+}
+
 #[test]
 fn sure_runs(rt: HostRuntime) -> Result<(), Fail> {
     let alloc = rt.alloc();
