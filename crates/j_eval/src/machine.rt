@@ -50,7 +50,6 @@ pub struct Machine {
 
 impl Model for Machine {
     ghost use Rattle.j_eval.specs.Meets.{Running};
-
     ghost use Rattle.j_eval.specs.Coded.{coded_running};
 
     ghost Value = { Running };

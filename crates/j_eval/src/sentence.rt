@@ -98,12 +98,8 @@ fn entity_in(word: Item) -> Result<Entity, Halt>
 {
     match word {
         Item::Entity(e) => Ok(e),
-        Item::Ranks(_)
-        | Item::Name(_)
-        | Item::Local
-        | Item::Global
-        | Item::Open
-        | Item::Close => Err(Halt::Failed(Fault::Syntax)),
+        Item::Ranks(_) | Item::Name(_) | Item::Local | Item::Global | Item::Open | Item::Close =>
+            Err(Halt::Failed(Fault::Syntax)),
     }
 }
 

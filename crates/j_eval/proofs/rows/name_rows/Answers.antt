@@ -44,4 +44,3 @@ returns-clause-itself c = λ names h. rw h (rw h (rw h refl))
 pub returns-clause-spent : goal.returns-clause-spent
 unfolding digits most_levels by_ranks popped popped_word popped_noun popped_verb popped_operand popped_adverb popped_conjunction
 returns-clause-spent c = λ names h. rw h refl
-

@@ -79,4 +79,3 @@ returns-else-not-started-clause-gives c =
     let started : c.turns.started ≡ true = search rules in
     let end = queue_end (nested c.args.room) c.turns.quiet c.turns.started (map word_of c.turns.left.now) (stack_of c.turns.stack.items) c.turns.self.state v.bound started (omega (arith, v.enough)) none in
     subst (MeetsAs given_of c.finished.result c.turns.self) (sym end ∙ v.same) c.finished.ensures
-
