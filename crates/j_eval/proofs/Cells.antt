@@ -1,13 +1,14 @@
 -- Plans, and what is left of their cells in a loop over them.
 use Rattle.std.proofs.Common.{◌≡◌, ℕ, suc, ◌+◌, ◌-◌, ◌<◌, ◌≤◌, List, [], ◌∷◌, ◌++◌, map, Option, Result, Ok, Err, refl, sym, ap, subst, ◌∙◌, append_assoc, append-nil, arith}
+use Rattle.std.specs.Prelude.{IfOk}
 use Rattle.std.specs.List.{range_with_len}
 use Rattle.j_definitions.specs.Array.{Array, product}
 use Rattle.j_leaves.specs.declared.ranks.Ranks.{Ranks}
 use Rattle.j_rank.specs.Assembly.{assemble}
-use Rattle.j_rank.specs.Plans.{Planned}
+use Rattle.j_rank.specs.Plans.{Planned, planned}
 use Rattle.j_eval.specs.declared.outcome.Halt.{Halt}
 use Rattle.j_eval.specs.declared.outcome.Halt.TheVariants as halt
-use Rattle.j_eval.specs.ByRank.{Doing, Cells, planned_for, pair, over_cells, on_cells, by_count, by_plan, by_ranks}
+use Rattle.j_eval.specs.ByRank.{Doing, Cells, IsWhole, planned_for, pair, over_cells, on_cells, by_count, by_plan, by_ranks}
 use Rattle.j_eval.specs.State.{State, Outcome, Gave, Erred, Spent, Run, then_do, ◌>>=◌, pure, or_fault}
 use Rattle.j_eval.specs.Meets.{Running, Meets, IsPart}
 use Rattle.j_eval.proofs.Parts.{then_err}
@@ -83,3 +84,21 @@ ranks_err r f x y halt.NoMemory m h = tt
 pub ranks_ok : (r : Ranks) (f : Doing) (x : Option Array) (y : Array) (p : Planned) (a : Result Array Halt) (m : Running) (s : State) → planned_for r x y ≡ Ok p → Meets a m (by_count (product p.agreed.frame) f p x y s) → Meets a m (by_ranks r f x y s)
 unfolding by_ranks
 ranks_ok r f x y p a m s h g = subst (λ q. Meets a m (by_plan q f x y s)) (sym h) g
+
+-- what the result of the one cell becomes
+abbrev of_one : Outcome Array → Outcome Array
+of_one o = then_do (then_do o (λ r. pure (r ∷ []))) (λ rs. or_fault (assemble [] rs))
+
+of_one_meets : (a : Result Array Halt) (m : Running) (o : Outcome Array) → IfOk a (λ r. assemble [] (r ∷ []) ≡ Ok r) → Meets a m o → Meets a m (of_one o)
+of_one_meets (Ok r) m o alone h = ap of_one h ∙ ap (λ q. or_fault q m.state) alone
+of_one_meets (Err (halt.Failed e)) m o alone h = ap of_one h
+of_one_meets (Err halt.Spent) m o alone h = ap of_one h
+of_one_meets (Err halt.NoMemory) m o alone h = tt
+
+-- a verb that takes the whole of its arguments
+pub ranks_whole : (r : Ranks) (f : Doing) (x : Option Array) (y : Array) (a : Result Array Halt) (m : Running) (s : State) → IsWhole r x y → IfOk a (λ r. assemble [] (r ∷ []) ≡ Ok r) → Meets a m (f x y s) → Meets a m (by_ranks r f x y s)
+unfolding by_ranks
+ranks_whole r f x y a m s whole alone h =
+    let one = of_one_meets a m (f x y s) alone h in
+    let cell : Meets a m (of_one (f (pair (planned [] 0 0) x y 0).0 (pair (planned [] 0 0) x y 0).1 s)) = subst (λ (c : Cells). Meets a m (of_one (f c.0 c.1 s))) (sym whole.one) one in
+    subst (λ q. Meets a m (by_plan q f x y s)) (sym whole.plan) cell

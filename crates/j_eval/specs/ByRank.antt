@@ -1,5 +1,5 @@
 -- A verb applied to the cells of its arguments, by its ranks.
-use Rattle.std.specs.Prelude.{ℕ, zero, suc, ◌/◌, List, [], ◌∷◌, map, Option, Some, None, Result, Ok, Err, pos}
+use Rattle.std.specs.Prelude.{◌≡◌, ℕ, zero, suc, ◌/◌, List, [], ◌∷◌, map, Option, Some, None, Result, Ok, Err, pos}
 use Rattle.std.specs.List.{range_with_len}
 use Rattle.j_definitions.specs.Array.{Array, number, atom_array, product}
 use Rattle.j_definitions.specs.declared.Fault.{Fault}
@@ -8,7 +8,7 @@ use Rattle.j_leaves.specs.declared.ranks.Ranks.{Ranks}
 use Rattle.j_rank.specs.Answers.{limited}
 use Rattle.j_rank.specs.Assembly.{assemble}
 use Rattle.j_rank.specs.Cells.{cell, cell_of_fills}
-use Rattle.j_rank.specs.Plans.{Planned, HasCells, monad_plan, dyad_plan}
+use Rattle.j_rank.specs.Plans.{Planned, HasCells, monad_plan, dyad_plan, planned}
 use Rattle.j_eval.specs.State.{Run, Outcome, Gave, Erred, Spent, ◌>>=◌, pure, fail, or_fault}
 
 -- the left argument, if there is one, and the right one
@@ -32,6 +32,11 @@ HasPairs p (Some x) y = HasCells p.left p.agreed.frame x.shape × HasCells p.rig
 abbrev pub pair : Planned → Option Array → Array → ℕ → Cells
 pair p None y k = (None, cell p.right y (k / p.agreed.right))
 pair p (Some x) y k = (Some (cell p.left x (k / p.agreed.left)), cell p.right y (k / p.agreed.right))
+
+-- The frame has no axes, so the arguments themselves are its one cell.
+pub record IsWhole (r : Ranks) (x : Option Array) (y : Array) : Type 0 where
+  pub plan : planned_for r x y ≡ Ok (planned [] 0 0)
+  pub one : pair (planned [] 0 0) x y 0 ≡ (x, y)
 
 -- all of them, in the order of the frame
 abbrev pub cells : Planned → Option Array → Array → List Cells

@@ -1,10 +1,10 @@
 // The cells that a verb's ranks make of its arguments, and the noun of their results.
-ghost use Rattle.std.specs.Prelude.{◌≡◌, ◌<◌, ◌∷◌, [], length, max, IfOk};
+ghost use Rattle.std.specs.Prelude.{◌≡◌, ◌<◌, ◌∷◌, [], length, max, IfOk, IsTrue};
 ghost use Rattle.std.specs.Option.{option_copied};
 ghost use Rattle.j_definitions.specs.Array.{Array, product};
 ghost use Rattle.j_rank.specs.Assembly.{assemble};
 ghost use Rattle.j_eval.specs.Applying.{named_cell, nested};
-ghost use Rattle.j_eval.specs.ByRank.{HasPairs, planned_for, pair, fills, or_zero, by_ranks, by_count, on_cells, on_fills, fill_result};
+ghost use Rattle.j_eval.specs.ByRank.{HasPairs, IsWhole, planned_for, pair, fills, or_zero, by_ranks, by_count, on_cells, on_fills, fill_result};
 ghost use Rattle.j_eval.specs.State.{Outcome};
 ghost use Rattle.j_eval.specs.Meets.{Running, IsPart, Meets, NoMemoryOr, Onward};
 
@@ -13,8 +13,18 @@ use crate::machine::Machine;
 use crate::outcome::Halt;
 use j_leaves::{Name, Ranks};
 use j_noun::Noun;
-use j_rank::{Collector, Plan, plan_dyad, plan_monad};
+use j_rank::{Collector, Plan, alone, are_whole, is_whole, plan_dyad, plan_monad};
 use std::alloc::Global;
+
+// Whether a verb of these ranks takes the whole of its arguments.
+fn takes_whole(r: Ranks, x: Option<&Noun>, y: &Noun) -> bool
+    ensures { IsTrue result → IsWhole r (option_copied x.entry) y.now }
+{
+    match x {
+        Some(x) => are_whole(r.left, r.right, x, y),
+        None => is_whole(r.monad, y),
+    }
+}
 
 // Which cells of its arguments a verb of these ranks is applied to.
 #[inline(never)]
@@ -110,6 +120,46 @@ impl Machine {
     // A name, which has the ranks that it was moved with.
     #[cycle(eval)]
     pub(crate) fn by_ranks(
+        &mut self,
+        room: u32,
+        name: &Name,
+        r: Ranks,
+        x: Option<&Noun>,
+        y: &Noun,
+    ) -> Result<Noun, Halt>
+        ensures gives { Meets result self.new (by_ranks r (named_cell (nested room) name.now) (option_copied x.entry) y.now self.old.state) }
+        ensures onward { Onward self.old self.new }
+    {
+        if takes_whole(r, x, y) {
+            self.on_whole(room, name, r, x, y)
+        } else {
+            self.by_cells(room, name, r, x, y)
+        }
+    }
+
+    // A name on the whole of its arguments.
+    #[cycle(eval)]
+    fn on_whole(
+        &mut self,
+        room: u32,
+        name: &Name,
+        r: Ranks,
+        x: Option<&Noun>,
+        y: &Noun,
+    ) -> Result<Noun, Halt>
+        requires { IsWhole r (option_copied x) y.now }
+        ensures gives { Meets result self.new (by_ranks r (named_cell (nested room) name.now) (option_copied x.entry) y.now self.old.state) }
+        ensures onward { Onward self.old self.new }
+    {
+        match self.named_cell(room, name, x, y) {
+            Ok(noun) => Ok(alone(noun)),
+            Err(halt) => Err(halt),
+        }
+    }
+
+    // A name on the cells that its ranks make.
+    #[cycle(eval)]
+    fn by_cells(
         &mut self,
         room: u32,
         name: &Name,

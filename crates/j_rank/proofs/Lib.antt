@@ -5,3 +5,4 @@ pub mod Widest
 pub mod Paddings
 pub mod Assembled
 pub mod Placing
+pub mod Single

@@ -10,7 +10,9 @@ mod rows;
 mod sizes;
 #[cfg(test)]
 mod tests;
+mod whole;
 
 pub use collector::Collector;
 pub use plan::{Plan, plan_dyad, plan_monad};
 pub use rows::{limit_laws, placing_laws, worked_assemblies, worked_plans};
+pub use whole::{alone, are_whole, is_whole};

@@ -23,20 +23,26 @@ decreases-derived l = 1000 * l.room + 10 * max (operand_height (operand_of l.u.n
 abbrev pub decreases-by_ranks : goal.decreases-by_ranks
 decreases-by_ranks l = 1000 * l.room + 8
 
+abbrev pub decreases-on_whole : goal.decreases-on_whole
+decreases-on_whole l = 1000 * l.room + 7
+
+abbrev pub decreases-by_cells : goal.decreases-by_cells
+decreases-by_cells l = 1000 * l.room + 7
+
 abbrev pub decreases-by_plan : goal.decreases-by_plan
-decreases-by_plan l = 1000 * l.room + 7
+decreases-by_plan l = 1000 * l.room + 6
 
 abbrev pub decreases-over_fills : goal.decreases-over_fills
-decreases-over_fills l = 1000 * l.room + 6
+decreases-over_fills l = 1000 * l.room + 5
 
 abbrev pub decreases-fill_result : goal.decreases-fill_result
-decreases-fill_result l = 1000 * l.room + 5
+decreases-fill_result l = 1000 * l.room + 4
 
 abbrev pub decreases-over_cells : goal.decreases-over_cells
-decreases-over_cells l = 1000 * l.room + 6
+decreases-over_cells l = 1000 * l.room + 5
 
 abbrev pub decreases-named_cell : goal.decreases-named_cell
-decreases-named_cell l = 1000 * l.room + 4
+decreases-named_cell l = 1000 * l.room + 3
 
 -- the results so far, then what the other cells give, is the whole
 abbrev pub invariant-over_cells-loop-k : goal.invariant-over_cells-loop-k
