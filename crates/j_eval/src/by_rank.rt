@@ -16,16 +16,6 @@ use j_noun::Noun;
 use j_rank::{Collector, Plan, alone, are_whole, is_whole, plan_dyad, plan_monad};
 use std::alloc::Global;
 
-// Whether a verb of these ranks takes the whole of its arguments.
-fn takes_whole(r: Ranks, x: Option<&Noun>, y: &Noun) -> bool
-    ensures { IsTrue result → IsWhole r (option_copied x.entry) y.now }
-{
-    match x {
-        Some(x) => are_whole(r.left, r.right, x, y),
-        None => is_whole(r.monad, y),
-    }
-}
-
 // Which cells of its arguments a verb of these ranks is applied to.
 #[inline(never)]
 fn planned(r: Ranks, x: Option<&Noun>, y: &Noun) -> Result<Plan, Halt>
@@ -130,10 +120,12 @@ impl Machine {
         ensures gives { Meets result self.new (by_ranks r (named_cell (nested room) name.now) (option_copied x.entry) y.now self.old.state) }
         ensures onward { Onward self.old self.new }
     {
-        if takes_whole(r, x, y) {
-            self.on_whole(room, name, r, x, y)
-        } else {
-            self.by_cells(room, name, r, x, y)
+        match x {
+            Some(left) if !are_whole(r.left, r.right, left, y) => {
+                self.by_cells(room, name, r, x, y)
+            }
+            None if !is_whole(r.monad, y) => self.by_cells(room, name, r, x, y),
+            _ => self.on_whole(room, name, r, x, y),
         }
     }
 
@@ -159,6 +151,7 @@ impl Machine {
 
     // A name on the cells that its ranks make.
     #[cycle(eval)]
+    #[inline(never)]
     fn by_cells(
         &mut self,
         room: u32,

@@ -68,3 +68,16 @@ fn doubling(rt: HostRuntime) -> Result<(), Fail> {
     text.push_str("a10 7\n1 2 a10 _7\n")?;
     check(&rt, alloc, &text, "7\n_7\n", 0)
 }
+
+// Forty names, each applying the one before it twice, spend the steps of a run: the last would look up the first 2^39 times.
+#[test]
+fn forty(rt: HostRuntime) -> Result<(), Fail> {
+    let alloc = rt.alloc();
+    let mut text = String::from_str(alloc, "1 + 1\na1 =: ] @: ]\n")?;
+    for k in 1..40u32 {
+        let line = format!(in alloc; "a{} =: a{k} @: a{k}\n", k + 1)?;
+        text.push_str(&line)?;
+    }
+    text.push_str("a40 7\n9\n")?;
+    check(&rt, alloc, &text, "2\n", 4)
+}
