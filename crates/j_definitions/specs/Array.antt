@@ -1,5 +1,5 @@
 -- What a noun is: a kind, a shape and a list of atoms.
-use Rattle.std.specs.Prelude.{◌≡◌, ℕ, ℤ, ◌+◌, ◌*◌, ◌≤◌, max, Bool, true, false, ◌&&◌, ◌==◌, List, [], ◌∷◌, length}
+use Rattle.std.specs.Prelude.{◌≡◌, ℕ, ℤ, pos, ◌+◌, ◌*◌, ◌≤◌, max, Bool, true, false, ◌&&◌, ◌==◌, List, [], ◌∷◌, length}
 use Rattle.std.specs.List.{sum_by, All}
 use Rattle.std.specs.Ordering.{int_eq}
 use Rattle.std.specs.Cmp.Lexicographic.{pointwise}
@@ -85,6 +85,12 @@ greatest_level (x ∷ rest) = max (atom_level x) (greatest_level rest)
 
 abbrev pub level : Array → ℕ
 level a = greatest_level a.atoms
+
+-- what fills a noun of each kind: 0, a blank, and a box with an empty list of numbers
+abbrev pub fill_atom : Kind → Atom
+fill_atom Number = number (pos 0)
+fill_atom Character = byte 32
+fill_atom Boxed = boxed (record { kind = Number; shape = 0 ∷ []; atoms = [] })
 
 abbrev pub IsOfKind : Kind → Atom → Type 0
 IsOfKind Number (number z) = Unit {0}

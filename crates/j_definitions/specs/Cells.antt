@@ -1,7 +1,8 @@
 -- Which cells of two nouns meet, and what it is to go through them in order.
-use Rattle.std.specs.Prelude.{ℕ, ◌/◌, Bool, nat_eq, cond, List, [], ◌∷◌, length, drop, map, Option, Some, None, Result, Ok, Err}
+use Rattle.std.specs.Prelude.{ℕ, ◌/◌, pos, Bool, nat_eq, cond, List, [], ◌∷◌, length, drop, map, Option, Some, None, Result, Ok, Err}
 use Rattle.std.specs.List.{range_with_len, starts_with}
-use Rattle.j_definitions.specs.Array.{product}
+use lib.ListN.{get_or}
+use Rattle.j_definitions.specs.Array.{Atom, number, product}
 
 -- the longer of two frames, and how many pairs in a row have one left cell, and one right cell
 pub record Agreed : Type 0 where
@@ -22,6 +23,9 @@ agree s t =
 -- the pairs of cell numbers, in the order of the frame
 abbrev pub pairs : Agreed → List (ℕ × ℕ)
 pairs a = map (λ k. (k / a.left, k / a.right)) (range_with_len 0 (product a.frame))
+
+abbrev pub atom_at : List Atom → ℕ → Atom
+atom_at xs k = get_or xs k (number (pos 0))
 
 abbrev pub with_first : {C E : Type 0} → C → Result (List C) E → Result (List C) E
 with_first z (Ok zs) = Ok (z ∷ zs)

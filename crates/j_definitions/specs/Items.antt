@@ -10,9 +10,13 @@ use Rattle.j_definitions.specs.Array.{Array, Atom, number, byte, nested, product
 abbrev pub item_size : List ℕ → ℕ
 item_size s = product (drop 1 s)
 
+-- part k of atoms, where each part has that many
+abbrev pub part : ℕ → List Atom → ℕ → List Atom
+part size xs k = take size (drop (k * size) xs)
+
 -- the atoms of item k
 abbrev pub item : Array → ℕ → List Atom
-item a k = take (item_size a.shape) (drop (k * item_size a.shape) a.atoms)
+item a k = part (item_size a.shape) a.atoms k
 
 -- numbers come before bytes and bytes before boxes, and boxes are not ordered
 abbrev pub atom_cmp : Atom → Atom → Ordering

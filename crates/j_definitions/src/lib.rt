@@ -1,4 +1,4 @@
-//! What a noun is and what the scalar verbs mean: the definitions that the contracts of the other crates cite.
+//! What a noun is, which cells meet, and the names of the errors: the definitions that the contracts of the other crates cite.
 #![tactic(auto)]
 
 ghost use Rattle.std.specs.Prelude.{◌≡◌};
@@ -57,12 +57,4 @@ impl Fault {
             Fault::Quotient => "quotient error",
         }
     }
-}
-
-/// The scalar verbs, which are of rank 0: `+`, `-` and `*` so far.
-#[derive(Clone, Copy, PartialEq, Eq, Debug)]
-pub enum Scalar {
-    Plus,
-    Minus,
-    Times,
 }

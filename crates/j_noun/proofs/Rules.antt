@@ -1,35 +1,62 @@
 -- Lemmas that the goals of several functions use.
-use Rattle.std.proofs.Common.{◌≡◌, ◌≤◌, ℤ, List, length, map, refl, arith}
-use Rattle.std.specs.List.{sum_by}
-use Rattle.std.specs.Ordering.{int_eq}
-use Rattle.std.specs.Cmp.Lexicographic.{pointwise}
-use Rattle.std.specs.List.{All}
-use Rattle.std.proofs.lemmas.List.{length-map}
+use Rattle.std.proofs.Common.{◌≡◌, ◌≤◌, refl, sym, ap, ◌∙◌, Result, Ok, Err, IfOk, IfErr, ℕ, ◌+◌, List, [], ◌∷◌, length, map, pos, arith}
+use Rattle.std.specs.List.{sum_by, All}
 use Rattle.std.proofs.lemmas.List.Elements.{All-map}
-use Rattle.j_definitions.specs.Array.{number, atom_weight, greatest_level, atom_match, IsOfKind}
-use Rattle.j_definitions.specs.declared.Kind.TheVariants.{Number}
-use Rattle.j_definitions.proofs.Laws.{number-IsNoun, unit_weights, no_level, maps_match}
+use Rattle.j_definitions.specs.Array.{Array, Atom, number, byte, boxed, atom_weight, greatest_level, IsOfKind}
+use Rattle.j_definitions.specs.declared.Kind.TheVariants.{Number, Character, Boxed}
+use Rattle.j_definitions.proofs.Laws.{number-IsNoun, byte-IsNoun, boxes_weight_more, boxes_level_more, unit_weights, no_level, length_le-weight}
+use Rattle.std.proofs.lemmas.List.{length-map}
+use Rattle.j_noun.specs.Held.{atoms_kept, kind_kept}
+use Rattle.j_definitions.specs.Array.{IsNoun, IsWithin}
+use Rattle.j_definitions.specs.Limits.{limited}
+use Rattle.j_definitions.specs.declared.Fault.{Fault}
+use Rattle.j_definitions.specs.declared.Fault.TheVariants.{Limit}
+use Rattle.j_definitions.proofs.Limits.{limited-Ok, limited-Err, noun_few}
+use Rattle.j_noun.specs.declared.refusal.Refusal.{Refusal}
+use Rattle.j_noun.specs.declared.refusal.Refusal.TheVariants.{NoMemory, Fault as RefusedFault}
+use Rattle.j_noun.specs.Refused.{IsRefusedBeyond, OrWanting}
+use Rattle.j_noun.specs.declared.noun.Atoms.{Atoms}
+use Rattle.j_noun.specs.declared.noun.Atoms.TheVariants.{Wholes, Bits, Bytes, Boxes}
 
-pub ruleset atom_rules = (number-IsNoun)
+pub ruleset atom_rules = (number-IsNoun, byte-IsNoun)
 
-pub numbers_weight : (xs : List ℤ) → sum_by atom_weight (map number xs) ≡ length xs
+pub numbers_weight : (xs : List _) → sum_by atom_weight (map number xs) ≡ length xs
 numbers_weight xs = unit_weights number (λ _. refl) xs
 
-pub numbers_level : (xs : List ℤ) → greatest_level (map number xs) ≡ 0
+pub bits_weight : (xs : List ℕ) → sum_by atom_weight (map (λ b. number (pos b)) xs) ≡ length xs
+bits_weight xs = unit_weights (λ b. number (pos b)) (λ _. refl) xs
+
+pub bytes_weight : (xs : List ℕ) → sum_by atom_weight (map byte xs) ≡ length xs
+bytes_weight xs = unit_weights byte (λ _. refl) xs
+
+pub boxes_weight : (xs : List Array) → length xs ≤ sum_by atom_weight (map boxed xs)
+boxes_weight xs = omega (arith, length_le-weight (map boxed xs), length-map xs boxed)
+
+pub numbers_level : (xs : List _) → greatest_level (map number xs) ≡ 0
 numbers_level xs = no_level number (λ _. refl) xs
 
-pub numbers_kind : (xs : List ℤ) → All (IsOfKind Number) (map number xs)
-numbers_kind xs = All-map (IsOfKind Number) number xs (λ _ _ _. tt)
+pub bits_level : (xs : List ℕ) → greatest_level (map (λ b. number (pos b)) xs) ≡ 0
+bits_level xs = no_level (λ b. number (pos b)) (λ _. refl) xs
 
-pub ruleset kept_rules = (numbers_weight, numbers_level, numbers_kind)
+pub bytes_level : (xs : List ℕ) → greatest_level (map byte xs) ≡ 0
+bytes_level xs = no_level byte (λ _. refl) xs
 
-pub numbers_match : (xs ys : List ℤ) → pointwise atom_match (map number xs) (map number ys) ≡ pointwise int_eq xs ys
-numbers_match xs ys = maps_match number number int_eq (λ _ _. refl) xs ys
+pub ruleset kept_rules = (numbers_weight, bits_weight, bytes_weight, boxes_weight, numbers_level, bits_level, bytes_level)
 
-pub ruleset match_rules = (numbers_match)
+pub kept-IsOfKind : (a : Atoms) → All (IsOfKind (kind_kept a)) (atoms_kept a)
+kept-IsOfKind (Wholes v) = All-map (IsOfKind Number) number v.items (λ _ _ _. tt)
+kept-IsOfKind (Bits v) = All-map (IsOfKind Number) (λ b. number (pos b)) v.items (λ _ _ _. tt)
+kept-IsOfKind (Bytes v) = All-map (IsOfKind Character) byte v.items (λ _ _ _. tt)
+kept-IsOfKind (Boxes v) = All-map (IsOfKind Boxed) boxed v.items (λ _ _ _. tt)
 
--- as many numbers as their weight
-pub few_numbers : (xs : List ℤ) → sum_by atom_weight (map number xs) ≤ 4194304 → length (map number xs) ≤ 4194304
-few_numbers xs h = omega (arith, numbers_weight xs, length-map xs number)
+pub few_atoms : (a : Array) → IsNoun a → (xs : List Atom) → xs ≡ a.atoms → length xs ≤ 4194304
+few_atoms a noun xs e = omega (arith, noun_few a noun, ap length e)
 
-pub ruleset few_rules = (few_numbers)
+pub ruleset few_rules = (noun_few)
+
+-- the answer of a call that makes a noun within the limits
+pub made_limited : (a : Array) (m : Result Array Refusal) → IfOk m (λ n. (n ≡ a) × IsWithin a.shape a.atoms) → IfErr m (IsRefusedBeyond (IsWithin a.shape a.atoms)) → OrWanting (limited a) m
+made_limited a (Ok n) ok err = limited-Ok a ok.1 ∙ ap Ok (sym ok.0)
+made_limited a (Err NoMemory) ok err = tt
+made_limited a (Err (RefusedFault Limit)) ok err = limited-Err a err
+made_limited a (Err (RefusedFault _)) ok err = absurd err

@@ -1,15 +1,23 @@
-//! Nouns: a kind, a shape and a list of atoms. So far their atoms are whole numbers.
+//! Nouns: a kind, a shape and a list of atoms.
 #![tactic(auto)]
 
+mod blocks;
 mod noun;
+mod order;
 mod ranks;
 mod refusal;
+mod rows;
 mod shape;
 mod view;
 
-pub use j_definitions::{Fault, Kind, Scalar};
-pub use noun::{Atoms, Noun};
+pub use j_definitions::{Fault, Kind};
+pub use j_pool::{NoMemory, Pool};
+pub use noun::{Atoms, Noun, boxes};
 pub use ranks::{Rank, RankList, RankPart};
-pub use refusal::{NoMemory, Refusal};
+pub use refusal::Refusal;
+pub use rows::{limit_rows, match_rows, measure_rows};
 pub use shape::Shape;
 pub use view::View;
+
+#[cfg(test)]
+mod tests;

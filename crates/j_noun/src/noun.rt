@@ -1,61 +1,136 @@
 // A noun and its storage.
-ghost use Rattle.std.specs.Prelude.{◌≡◌, ◌≤◌, ◌<◌, ◌==◌, ◌+◌, ◌*◌, [], ◌∷◌, length, map, take, drop, IfOk, IfErr, IsOk};
+ghost use Rattle.std.specs.Prelude.{◌≡◌, ◌≢◌, ◌≤◌, ◌<◌, ◌==◌, ◌+◌, ◌*◌, [], ◌∷◌, length, map, take, drop, vec_capacity, IfOk, IfErr, IsOk, MatchOption, pos};
 ghost use Rattle.std.specs.List.{sum_by};
 ghost use Rattle.std.specs.Cmp.Lexicographic.{pointwise};
-ghost use Rattle.j_definitions.specs.Array.{number, product, tally, weight, level, atom_weight, atom_array, IsNoun, IsWithin, arrays_match};
+ghost use Rattle.j_pool.specs.Asked.{raised};
+ghost use Rattle.j_definitions.specs.Array.{number, byte, boxed, product, tally, weight, level, atom_weight, greatest_level, atom_array, IsNoun, IsWithin, arrays_match};
 ghost use Rattle.j_definitions.specs.Items.{items_cmp};
-ghost use Rattle.j_definitions.specs.declared.Kind.TheVariants.{Number as NumberKind};
-ghost use Rattle.j_noun.specs.Refused.{IsRefusedBeyond};
-ghost use Rattle.j_noun.specs.Viewed.{viewed, kind_viewed};
-ghost use Rattle.j_noun.specs.Held.{IsInline, atoms_kept, array_kept, array_held};
+ghost use Rattle.j_definitions.specs.Limits.{limited};
+ghost use Rattle.j_definitions.specs.declared.Kind.TheVariants.{Number as NumberKind, Character as CharacterKind, Boxed as BoxedKind};
+ghost use Rattle.j_noun.specs.Refused.{IsRefusedBeyond, OrWanting};
+ghost use Rattle.j_noun.specs.Viewed.{viewed, kind_viewed, ShowsBits};
+ghost use Rattle.j_noun.specs.Held.{IsInline, kind_kept, atoms_kept, array_kept, AreBits, IsMeasured};
 
-use crate::refusal::{NoMemory, Refusal};
+use crate::order::order_runs;
+use crate::refusal::Refusal;
 use crate::shape::Shape;
-use crate::view::View;
+use crate::view::{View, views_match};
 use j_definitions::{Fault, Kind};
-use std::alloc::Global;
+use j_pool::{NoMemory, Pool};
 use std::cmp::Ordering;
 use std::marker::Model;
 use std::rc::Rc;
 use std::slice;
 
-/// A noun. A number is kept inline, and any other noun shares its buffer.
+/// A noun. An atom that isn't boxed is kept inline, and any other noun shares its buffer.
+#[cycle(noun)]
 #[derive(Drop)]
 pub struct Noun {
     held: Held,
 }
 
+#[cycle(noun)]
 #[derive(Drop)]
 enum Held {
     Number(i64),
+    Character(u8),
     Shared(Rc<Block>),
 }
 
+// The weight and the level are kept beside the atoms.
+#[cycle(noun)]
 #[derive(Drop)]
 struct Block {
     shape: Shape,
     atoms: Atoms,
+    weight: usize,
+    level: usize,
 }
 
-/// The atoms of a noun that is to be made, in order.
+/// The atoms of a noun that is to be made, in order. Bits are the numbers 0 and 1.
+#[cycle(noun)]
 #[derive(Drop)]
 pub enum Atoms {
     Wholes(Vec<i64>),
+    Bits(Vec<u8>),
+    Bytes(Vec<u8>),
+    Boxes(Vec<Noun>),
 }
 
 pub const WEIGHT_LIMIT: usize = 4_194_304;
 
-// The atoms of item i, where each has that many.
-fn run_of(numbers: &[i64], i: usize, size: usize) -> &[i64]
-    requires { (i + 1) * size ≤ length numbers.now }
-    ensures { result.now ≡ take size (drop (i * size) numbers.now) }
+pub const LEVEL_LIMIT: usize = 64;
+
+/// An empty buffer with room for `n` nouns.
+pub fn boxes(pool: &mut Pool, n: usize) -> Result<Vec<Noun>, NoMemory>
+    ensures asked { pool.new ≡ raised pool.old n }
+    ensures ok { IfOk result (λ v. (v.items ≡ []) × (n ≤ vec_capacity v)) }
 {
-    let start = i * size;
-    &numbers[start..start + size]
+    pool.fresh(n)
+}
+
+// The weight and the level of atoms, or `None` where the weight passes its limit.
+#[tactic(auto, using(crate::proofs::Rules::kept_rules))]
+fn measured(atoms: &Atoms) -> Option<(usize, usize)>
+    ensures { MatchOption result (4194304 < sum_by atom_weight (atoms_kept atoms.now)) (λ p. IsMeasured (atoms_kept atoms.now) p.0 p.1) }
+{
+    match atoms {
+        Atoms::Wholes(v) => within((v.len(), 0)),
+        Atoms::Bits(v) => within((v.len(), 0)),
+        Atoms::Bytes(v) => within((v.len(), 0)),
+        Atoms::Boxes(v) => {
+            if v.len() > WEIGHT_LIMIT {
+                None
+            } else {
+                within(totals(v))
+            }
+        }
+    }
+}
+
+// A weight and a level, where the weight is within its limit.
+fn within(sizes: (usize, usize)) -> Option<(usize, usize)>
+    ensures { MatchOption result (4194304 < sizes.0) (λ p. (p ≡ sizes) × (sizes.0 ≤ 4194304)) }
+{
+    if sizes.0 <= WEIGHT_LIMIT {
+        Some(sizes)
+    } else {
+        None
+    }
+}
+
+// The weight and the level of boxes with these nouns.
+fn totals(kids: &[Noun]) -> (usize, usize)
+    requires { length kids.now ≤ 4194304 }
+    ensures weight { result.0 ≡ sum_by atom_weight (map boxed kids.now) }
+    ensures level { result.1 ≡ greatest_level (map boxed kids.now) }
+{
+    let mut weight = 0;
+    let mut level = 0;
+    for kid in kids {
+        weight += kid.weight() + 1;
+        if kid.level() >= level {
+            level = kid.level() + 1;
+        }
+    }
+    (weight, level)
+}
+
+// The atom, if it isn't boxed.
+fn single(atoms: &Atoms) -> Option<Noun>
+    requires { length (atoms_kept atoms.now) ≡ 1 }
+    ensures { MatchOption result (kind_kept atoms.now ≡ BoxedKind) (λ n. n ≡ array_kept [] atoms.now) }
+{
+    match atoms {
+        Atoms::Wholes(v) => Some(Noun::number(v[0])),
+        Atoms::Bits(v) => Some(Noun::number(i64::from(v[0]))),
+        Atoms::Bytes(v) => Some(Noun::character(v[0])),
+        Atoms::Boxes(_) => None,
+    }
 }
 
 impl Model for Noun {
-    ghost use Rattle.j_definitions.specs.Array.{Array};
+    ghost use Rattle.j_definitions.specs.Array.{Array, level, IsNoun};
     ghost use Rattle.j_definitions.specs.Stored.{array_code};
 
     ghost Value = { Array };
@@ -67,6 +142,12 @@ impl Model for Noun {
     ghost view = { λ a. array_held a.held };
 
     ghost invariant = { λ a. IsSound a.held };
+
+    ghost size = { level };
+
+    ghost use Rattle.j_noun.specs.Falls.{deep_le-level};
+
+    ghost size_decreases = { λ a h. deep_le-level a.held };
 }
 
 impl Noun {
@@ -79,21 +160,40 @@ impl Noun {
         }
     }
 
-    /// The noun of a shape and its atoms.
-    #[tactic(auto, using(crate::proofs::Rules::kept_rules))]
-    pub fn make(alloc: Global, shape: Shape, atoms: Atoms) -> Result<Noun, Refusal>
-        requires { length (atoms_kept atoms) ≡ product shape }
+    #[tactic(auto, using(crate::proofs::Rules::atom_rules))]
+    pub fn character(b: u8) -> Noun
+        ensures { result ≡ atom_array CharacterKind (byte b) }
+    {
+        Noun {
+            held: Held::Character(b),
+        }
+    }
+
+    // The noun of a shape and its atoms, as its limits are met or passed.
+    fn made(pool: &Pool, shape: Shape, atoms: Atoms) -> Result<Noun, Refusal>
+        requires as_many { length (atoms_kept atoms) ≡ product shape }
+        requires bits { AreBits atoms }
         ensures ok { IfOk result (λ n. (n ≡ array_kept shape atoms) × IsWithin shape (atoms_kept atoms)) }
         ensures err { IfErr result (IsRefusedBeyond (IsWithin shape (atoms_kept atoms))) }
     {
-        let Atoms::Wholes(numbers) = &atoms;
-        if numbers.len() > WEIGHT_LIMIT || !shape.is_within() {
+        let Some((weight, level)) = measured(&atoms) else {
+            return Err(Refusal::Fault(Fault::Limit));
+        };
+        if level > LEVEL_LIMIT || !shape.is_within() {
             return Err(Refusal::Fault(Fault::Limit));
         }
         if shape.axes().is_empty() {
-            return Ok(Noun::number(numbers[0]));
+            if let Some(atom) = single(&atoms) {
+                return Ok(atom);
+            }
         }
-        match Rc::new(alloc, Block { shape, atoms }) {
+        let block = Block {
+            shape,
+            atoms,
+            weight,
+            level,
+        };
+        match Rc::new(pool.alloc(), block) {
             Ok(block) => Ok(Noun {
                 held: Held::Shared(block),
             }),
@@ -101,13 +201,28 @@ impl Noun {
         }
     }
 
+    /// The noun of a shape and its atoms. What was asked of the pool stays.
+    pub fn make(pool: &mut Pool, shape: Shape, atoms: Atoms) -> Result<Noun, Refusal>
+        requires as_many { length (atoms_kept atoms) ≡ product shape }
+        requires bits { AreBits atoms }
+        ensures asked { pool.new ≡ pool.old }
+        ensures ok { IfOk result (λ n. (n ≡ array_kept shape atoms) × IsWithin shape (atoms_kept atoms)) }
+        ensures err { IfErr result (IsRefusedBeyond (IsWithin shape (atoms_kept atoms))) }
+        ensures limited { OrWanting (limited (array_kept shape atoms)) result }
+    {
+        Noun::made(pool, shape, atoms)
+    }
+
     pub fn kind(&self) -> Kind
         ensures { result ≡ self.now.kind }
     {
         match &self.held {
             Held::Number(_) => Kind::Number,
+            Held::Character(_) => Kind::Character,
             Held::Shared(block) => match &block.atoms {
-                Atoms::Wholes(_) => Kind::Number,
+                Atoms::Wholes(_) | Atoms::Bits(_) => Kind::Number,
+                Atoms::Bytes(_) => Kind::Character,
+                Atoms::Boxes(_) => Kind::Boxed,
             },
         }
     }
@@ -116,17 +231,18 @@ impl Noun {
         ensures { result ≡ self.now.shape }
     {
         match &self.held {
-            Held::Number(_) => Shape::new(),
+            Held::Number(_) | Held::Character(_) => Shape::new(),
             Held::Shared(block) => block.shape.copy(),
         }
     }
 
     /// The axis lengths, lent: none for an atom.
     pub fn axes(&self) -> &[usize]
-        ensures { result.now ≡ self.now.shape }
+        ensures value { result.now ≡ self.now.shape }
+        ensures rank { length self.now.shape ≤ 32 }
     {
         match &self.held {
-            Held::Number(_) => &[],
+            Held::Number(_) | Held::Character(_) => &[],
             Held::Shared(block) => block.shape.axes(),
         }
     }
@@ -135,55 +251,51 @@ impl Noun {
     pub fn tally(&self) -> usize
         ensures { result ≡ tally self.now.shape }
     {
-        match &self.held {
-            Held::Number(_) => 1,
-            Held::Shared(block) => match block.shape.axes() {
-                [] => 1,
-                [n, ..] => *n,
-            },
+        match self.axes() {
+            [] => 1,
+            [n, ..] => *n,
         }
     }
 
     /// The number of atoms, with the weights of the nouns in boxes.
-    #[tactic(auto, using(crate::proofs::Rules::kept_rules))]
     pub fn weight(&self) -> usize
         ensures value { result ≡ weight self.now }
         ensures limit { result ≤ 4194304 }
     {
         match &self.held {
-            Held::Number(_) => 1,
-            Held::Shared(block) => match &block.atoms {
-                Atoms::Wholes(numbers) => numbers.len(),
-            },
+            Held::Number(_) | Held::Character(_) => 1,
+            Held::Shared(block) => block.weight,
         }
     }
 
     /// The box level.
-    #[tactic(auto, using(crate::proofs::Rules::kept_rules))]
     pub fn level(&self) -> usize
         ensures value { result ≡ level self.now }
         ensures limit { result ≤ 64 }
     {
         match &self.held {
-            Held::Number(_) => 0,
-            Held::Shared(block) => match &block.atoms {
-                Atoms::Wholes(_) => 0,
-            },
+            Held::Number(_) | Held::Character(_) => 0,
+            Held::Shared(block) => block.level,
         }
     }
 
-    /// The atoms in order.
+    /// The atoms in order, as they are stored.
     #[tactic(auto, using(crate::proofs::Rules::few_rules))]
     pub fn view(&self) -> View<'_>
         ensures atoms { viewed result ≡ self.now.atoms }
-        ensures few { length (viewed result) ≤ 4194304 }
         ensures kind { kind_viewed result ≡ self.now.kind }
+        ensures bits { ShowsBits result }
+        ensures few { length (viewed result) ≤ 4194304 }
         ensures noun { IsNoun self.now }
     {
         match &self.held {
             Held::Number(n) => View::Wholes(slice::from_ref(n)),
+            Held::Character(b) => View::Bytes(slice::from_ref(b)),
             Held::Shared(block) => match &block.atoms {
-                Atoms::Wholes(numbers) => View::Wholes(numbers),
+                Atoms::Wholes(v) => View::Wholes(v),
+                Atoms::Bits(v) => View::Bits(v),
+                Atoms::Bytes(v) => View::Bytes(v),
+                Atoms::Boxes(v) => View::Boxes(v),
             },
         }
     }
@@ -195,6 +307,7 @@ impl Noun {
     {
         match &self.held {
             Held::Number(n) => Ok(Noun::number(*n)),
+            Held::Character(b) => Ok(Noun::character(*b)),
             Held::Shared(block) => match block.clone() {
                 Ok(block) => Ok(Noun {
                     held: Held::Shared(block),
@@ -204,38 +317,52 @@ impl Noun {
         }
     }
 
-    /// The order of two items, which are compared atom by atom.
+    /// The order of two items, which are compared atom by atom. Boxes aren't ordered.
     pub fn order_items(&self, i: usize, j: usize) -> Ordering
         requires first { i < tally self.now.shape }
         requires second { j < tally self.now.shape }
+        requires kind { self.now.kind ≢ BoxedKind }
         ensures { result ≡ items_cmp self.now i j }
     {
-        let numbers = self.numbers();
-        let size = numbers.len() / self.tally();
-        run_of(numbers, i, size).cmp(run_of(numbers, j, size))
+        let count = self.tally();
+        match self.view() {
+            View::Wholes(numbers) => order_runs(numbers, count, i, j),
+            View::Bits(bits) => order_runs(bits, count, i, j),
+            View::Bytes(bytes) => order_runs(bytes, count, i, j),
+            View::Boxes(_) => unreachable!(),
+        }
     }
 
-    // The atoms, where they are whole numbers.
-    fn numbers(&self) -> &[i64]
-        ensures atoms { map number result.now ≡ self.now.atoms }
-        ensures noun { IsNoun self.now }
+    // Whether the shapes are equal.
+    fn has_shape_of(&self, other: &Noun) -> bool
+        ensures { result ≡ pointwise ◌==◌ self.now.shape other.now.shape }
     {
-        match &self.held {
-            Held::Number(n) => slice::from_ref(n),
-            Held::Shared(block) => match &block.atoms {
-                Atoms::Wholes(numbers) => numbers,
-            },
-        }
+        self.axes() == other.axes()
     }
 
     /// Whether the shapes and the atoms are equal.
-    #[tactic(auto, using(crate::proofs::Rules::match_rules))]
     pub fn matches(&self, other: &Noun) -> bool
         ensures { result ≡ arrays_match self.now other.now }
     {
-        if self.axes() != other.axes() {
+        if !self.has_shape_of(other) {
             return false;
         }
-        self.numbers() == other.numbers()
+        match self.view() {
+            View::Boxes(x) => match other.view() {
+                View::Boxes(y) => {
+                    if x.len() != y.len() {
+                        return false;
+                    }
+                    for i in 0..x.len() {
+                        if !x[i].matches(&y[i]) {
+                            return false;
+                        }
+                    }
+                    true
+                }
+                y => views_match(View::Boxes(x), y),
+            },
+            x => views_match(x, other.view()),
+        }
     }
 }

@@ -3,8 +3,7 @@ ghost use Rattle.std.specs.Prelude.{◌≡◌, IsTrue, IfOk};
 ghost use Rattle.std.specs.List.{list_any};
 ghost use Rattle.j_noun.specs.Ranks.{is_infinite};
 
-use crate::refusal::NoMemory;
-use std::alloc::Global;
+use j_pool::{NoMemory, Pool};
 use std::marker::Model;
 use std::rc::Rc;
 
@@ -47,11 +46,11 @@ impl Model for RankList {
 }
 
 impl RankList {
-    pub fn make(alloc: Global, parts: Vec<RankPart>) -> Result<RankList, NoMemory>
+    pub fn make(pool: &Pool, parts: Vec<RankPart>) -> Result<RankList, NoMemory>
         requires { IsTrue (list_any is_infinite parts.items) }
         ensures { IfOk result (λ r. r ≡ parts.items) }
     {
-        match Rc::new(alloc, parts) {
+        match Rc::new(pool.alloc(), parts) {
             Ok(parts) => Ok(RankList { parts }),
             Err(_) => Err(NoMemory),
         }

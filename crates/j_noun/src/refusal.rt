@@ -3,10 +3,7 @@ ghost use Rattle.std.specs.Prelude.{◌≡◌};
 ghost use Rattle.j_noun.specs.declared.refusal.Refusal.TheVariants.{NoMemory as RefusedMemory, Fault as RefusedFault};
 
 use j_definitions::Fault;
-
-/// Memory was wanting.
-#[derive(Clone, Copy, PartialEq, Eq, Debug)]
-pub struct NoMemory;
+use j_pool::NoMemory;
 
 #[derive(Clone, Copy, PartialEq, Eq, Debug)]
 pub enum Refusal {

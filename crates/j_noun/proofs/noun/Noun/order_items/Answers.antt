@@ -1,10 +1,16 @@
-use Rattle.std.proofs.Common.{◌∙◌, ap, take, drop, length, ◌*◌, ◌/◌}
-use Rattle.std.specs.Ordering.{int_cmp}
-use Rattle.std.specs.Cmp.Lexicographic.{slice_cmp}
-use Rattle.j_noun.proofs.Ordering.{items_order}
+use Rattle.std.proofs.Common.{◌∙◌}
+use Rattle.j_definitions.specs.Array.{number, byte}
+use Rattle.j_noun.proofs.Ordering.{items_order, bit_items_order}
 use Rattle.j_noun.proofs.noun.Noun.order_items.Goals as goal
 
-pub returns : goal.returns
-returns c =
-    c.cmp.ensures ∙ ap (λ xs. slice_cmp int_cmp xs c.run_of-2.result.now) c.run_of.ensures ∙ ap (slice_cmp int_cmp (take (length c.numbers-numbers.result.now / c.tally.result) (drop (c.args.i * (length c.numbers-numbers.result.now / c.tally.result)) c.numbers-numbers.result.now))) c.run_of-2.ensures
-    ∙ items_order c.args.self.now c.numbers-numbers.result.now c.args.i c.args.j _ c.numbers-numbers.ensures.noun c.numbers-numbers.ensures.atoms c.requires.first (ap (λ n. length c.numbers-numbers.result.now / n) c.tally.ensures)
+pub returns-in-Wholes : goal.returns-in-Wholes
+returns-in-Wholes c =
+    c.order_runs.ensures ∙ items_order number c.args.self.now c.in-Wholes.numbers.now c.args.i c.args.j c.tally-count.result c.in-Wholes.ensures.noun c.in-Wholes.ensures.atoms c.tally-count.ensures c.requires.first
+
+pub returns-in-Bits : goal.returns-in-Bits
+returns-in-Bits c =
+    c.order_runs-in-Bits.ensures ∙ bit_items_order c.args.self.now c.in-Bits.bits.now c.args.i c.args.j c.tally-count.result c.in-Bits.ensures.noun c.in-Bits.ensures.atoms c.tally-count.ensures c.requires.first
+
+pub returns-in-Bytes : goal.returns-in-Bytes
+returns-in-Bytes c =
+    c.order_runs-in-Bytes.ensures ∙ items_order byte c.args.self.now c.in-Bytes.bytes.now c.args.i c.args.j c.tally-count.result c.in-Bytes.ensures.noun c.in-Bytes.ensures.atoms c.tally-count.ensures c.requires.first
