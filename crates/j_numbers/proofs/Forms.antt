@@ -10,7 +10,8 @@ use Rattle.std.proofs.lemmas.List.Elements.{All-cons, All-nil}
 use Rattle.j_numbers.specs.declared.fault.NumberFault.TheVariants.{IllFormed}
 use Rattle.j_noun.specs.declared.ranks.RankPart.TheVariants.{Infinite}
 use Rattle.j_numbers.specs.Capped.{capped}
-use Rattle.j_numbers.specs.Numbers.{is_blank, is_empty, are_digits, is_minus, unsigned, signed, plain, is_mark, split_number, number_of, ranged, is_infinity, part_value}
+use Rattle.j_definitions.specs.Bytes.{is_blank}
+use Rattle.j_numbers.specs.Numbers.{is_empty, are_digits, is_minus, unsigned, signed, plain, is_mark, split_number, number_of, ranged, is_infinity, part_value}
 use Rattle.j_numbers.proofs.Sizes.{plain_alike}
 
 neither : (a b : Bool) → a ≡ false → b ≡ false → (a || b) ≡ false

@@ -8,7 +8,8 @@ use Rattle.std.proofs.lemmas.List.{take-append-drop, get_or-take, get_or-drop, d
 use Rattle.std.proofs.lemmas.List.Sums.{fails_before_first, passes_at_first, prefix_len-le-length}
 use Rattle.std.proofs.lemmas.List.Elements.{All-from_get_or, All-head, All-tail, All-weaker}
 use Rattle.std.proofs.lemmas.List.Splits.{slice_split-cons_yes, slice_split_none, slice_split_at}
-use Rattle.j_numbers.specs.Numbers.{is_blank, is_empty, parts}
+use Rattle.j_definitions.specs.Bytes.{is_blank}
+use Rattle.j_numbers.specs.Numbers.{is_empty, parts}
 
 -- whether a list is empty or begins with an element that passes
 abbrev pub begins : (ℕ → Bool) → List ℕ → Bool

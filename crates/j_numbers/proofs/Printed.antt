@@ -11,9 +11,10 @@ use Rattle.std.proofs.lemmas.Str.Parse.{IsNumeralModel, numerals_by_value, tells
 use Rattle.std.proofs.lemmas.List.Elements.{All-cons}
 use Rattle.std.proofs.lemmas.List.Splits.{slice_split_none}
 use Rattle.j_definitions.specs.Cells.{in_order}
-use Rattle.j_definitions.specs.Scalars.{in_range}
+use Rattle.j_definitions.specs.Range.{in_range}
 use Rattle.j_noun.specs.declared.ranks.RankPart.TheVariants.{Number}
-use Rattle.j_numbers.specs.Numbers.{is_blank, is_empty, parts, are_digits, unsigned, signed, plain, is_mark, number_of, ranged, is_infinity, part_value, within_limit, literal}
+use Rattle.j_definitions.specs.Bytes.{is_blank}
+use Rattle.j_numbers.specs.Numbers.{is_empty, parts, are_digits, unsigned, signed, plain, is_mark, number_of, ranged, is_infinity, part_value, within_limit, literal}
 use Rattle.j_numbers.specs.Printed.{printed}
 use Rattle.j_numbers.proofs.Forms.{and_false, digit_apart, digits_no_blank, one_longer, digits_no_mark, unmarked}
 

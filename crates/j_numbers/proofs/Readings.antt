@@ -18,7 +18,7 @@ use Rattle.j_numbers.specs.declared.literal.Literal.TheVariants.{Noun, Ranks}
 use Rattle.j_noun.specs.declared.ranks.RankPart.{RankPart}
 use Rattle.j_noun.specs.declared.ranks.RankPart.TheVariants.{Number, Infinite}
 use Rattle.j_noun.specs.Ranks.{is_infinite}
-use Rattle.j_definitions.specs.Scalars.{in_range}
+use Rattle.j_definitions.specs.Range.{in_range}
 use Rattle.j_numbers.specs.Numbers.{parts, number_of, ranged, part_value, within_limit, literal}
 use Rattle.j_numbers.specs.Literals.{number_list, with_number, finite, noun_or_ranks, literal_of, read, noun_or_fault, noun_of, noun, IsFaultOf}
 use Rattle.j_numbers.specs.Readings.{values, after, values_after, read_after, noun_after, limit_or_fault}

@@ -7,7 +7,7 @@ use Rattle.std.proofs.lemmas.List.{drop_more, at_drop_more}
 use Rattle.std.specs.List.{list_all}
 use Rattle.std.specs.Str.{all_ascii_digits}
 use Rattle.std.proofs.Math.Nat.{le-mul_of_pos_right, pow-le-pow_right}
-use Rattle.j_definitions.specs.Scalars.{in_range}
+use Rattle.j_definitions.specs.Range.{in_range}
 use Rattle.j_numbers.specs.declared.fault.NumberFault.TheVariants.{Overflow, IllFormed}
 use Rattle.j_noun.specs.declared.ranks.RankPart.TheVariants.{Number}
 use Rattle.j_numbers.specs.Capped.{capped}

@@ -4,16 +4,13 @@ use Rattle.std.specs.List.{slice_split, position_or_len, list_all}
 use Rattle.std.specs.Char.{is_ascii_digit, is_ascii_lowercase}
 use Rattle.std.specs.Str.{all_ascii_digits}
 use Rattle.std.specs.Str.Parse.{digits_value}
+use Rattle.j_definitions.specs.Bytes.{is_blank}
 use Rattle.j_definitions.specs.Cells.{in_order}
-use Rattle.j_definitions.specs.Scalars.{in_range}
+use Rattle.j_definitions.specs.Range.{in_range}
 use Rattle.j_numbers.specs.declared.fault.NumberFault.{NumberFault}
 use Rattle.j_numbers.specs.declared.fault.NumberFault.TheVariants.{IllFormed, Overflow, Limit}
 use Rattle.j_noun.specs.declared.ranks.RankPart.{RankPart}
 use Rattle.j_noun.specs.declared.ranks.RankPart.TheVariants.{Number, Infinite}
-
--- a space or a tab
-abbrev pub is_blank : ℕ → Bool
-is_blank b = (b == 32) || (b == 9)
 
 abbrev pub is_empty : List ℕ → Bool
 is_empty [] = true

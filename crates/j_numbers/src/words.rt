@@ -3,7 +3,8 @@ ghost use Rattle.std.specs.Prelude.{◌≡◌, ◌≤◌, ◌<◌, ◌∷◌, �
 ghost use Rattle.std.specs.List.{position_or_len};
 ghost use Rattle.j_definitions.specs.Array.{number};
 ghost use Rattle.j_definitions.specs.Cells.{in_order};
-ghost use Rattle.j_numbers.specs.Numbers.{is_blank, parts};
+ghost use Rattle.j_definitions.specs.Bytes.{is_blank};
+ghost use Rattle.j_numbers.specs.Numbers.{parts};
 ghost use Rattle.j_numbers.specs.Literals.{number_list, read, noun, IsFaultOf};
 ghost use Rattle.j_numbers.specs.Readings.{values, read_after, limit_or_fault};
 ghost use Rattle.j_noun.specs.declared.ranks.RankPart.TheVariants.{Number, Infinite};
@@ -11,8 +12,8 @@ ghost use Rattle.j_noun.specs.declared.ranks.RankPart.TheVariants.{Number, Infin
 use crate::fault::NumberFault;
 use crate::literal::Literal;
 use crate::part::read_part;
-use j_noun::{Atoms, Noun, RankList, RankPart, Refusal, Shape};
-use std::alloc::Global;
+use j_noun::{Atoms, Noun, Pool, RankList, RankPart, Refusal, Shape};
+use std::cmp;
 
 const MOST_PARTS: usize = 4_194_304;
 
@@ -78,9 +79,15 @@ fn fault_beyond(text: &[u8], infinite: bool) -> NumberFault
     NumberFault::Limit
 }
 
+/// Room for the numbers of a text: it has at most one part more than blanks.
+fn room_for(text: &[u8]) -> usize {
+    let blanks = text.iter().filter(|b| is_blank(**b)).count();
+    cmp::min(blanks, MOST_PARTS - 1) + 1
+}
+
 /// The noun of numbers.
 #[tactic(auto, using(crate::proofs::Readings::numbers_noun, crate::proofs::Readings::one_noun, crate::proofs::Readings::list_within, crate::proofs::Readings::refused))]
-fn make_noun(alloc: Global, numbers: Vec<i64>) -> Result<Noun, NumberFault>
+fn make_noun(pool: &mut Pool, numbers: Vec<i64>) -> Result<Noun, NumberFault>
     requires { vec_len numbers ≤ 4194304 }
     ensures ok { IfOk result (λ n. n ≡ number_list (map number numbers.items)) }
     ensures err { IfErr result (λ f. f ≡ NumberFault.NoMemory) }
@@ -92,19 +99,19 @@ fn make_noun(alloc: Global, numbers: Vec<i64>) -> Result<Noun, NumberFault>
     if shape.add(numbers.len()).is_err() {
         return Err(NumberFault::Limit);
     }
-    match Noun::make(alloc, shape, Atoms::Wholes(numbers)) {
+    match Noun::make(pool, shape, Atoms::Wholes(numbers)) {
         Ok(noun) => Ok(noun),
         Err(Refusal::Fault(_)) => Err(NumberFault::Limit),
         Err(Refusal::NoMemory) => Err(NumberFault::NoMemory),
     }
 }
 
-/// Numbers as ranks, and an infinite one after them.
-fn start_ranks(alloc: Global, numbers: &[i64]) -> Result<Vec<RankPart>, NumberFault>
+/// Numbers as ranks, and an infinite one after them, with room for more.
+fn start_ranks(pool: &mut Pool, numbers: &[i64], more: usize) -> Result<Vec<RankPart>, NumberFault>
     ensures ok { IfOk result (λ v. v.items ≡ map Number numbers.now ++ Infinite ∷ []) }
     ensures err { IfErr result (λ f. f ≡ NumberFault.NoMemory) }
 {
-    let mut ranks = Vec::new(alloc);
+    let mut ranks = pool.fresh(numbers.len().saturating_add(more).saturating_add(1))?;
     for n in numbers {
         if ranks.push(RankPart::Number(*n)).is_err() {
             return Err(NumberFault::NoMemory);
@@ -118,12 +125,12 @@ fn start_ranks(alloc: Global, numbers: &[i64]) -> Result<Vec<RankPart>, NumberFa
 
 /// The ranks of numbers, an infinite part and a text.
 #[tactic(auto, using(crate::proofs::Readings::read_more, crate::proofs::Readings::read_fault, crate::proofs::Readings::read_beyond, crate::proofs::Readings::ranks_end, crate::proofs::Readings::any_more, crate::proofs::Readings::any_last, crate::proofs::Readings::last_long, crate::proofs::Readings::fault_given, crate::proofs::Readings::memory_given))]
-fn read_ranks(alloc: Global, numbers: &[i64], text: &[u8]) -> Result<Literal, NumberFault>
+fn read_ranks(pool: &mut Pool, numbers: &[i64], text: &[u8]) -> Result<Literal, NumberFault>
     requires { length numbers.now < 4194304 }
     ensures ok { IfOk result (λ l. read_after (map Number numbers.now ++ Infinite ∷ []) text.now ≡ OkValue l) }
     ensures err { IfErr result (λ f. IsFaultOf (read_after (map Number numbers.now ++ Infinite ∷ []) text.now) f) }
 {
-    let mut ranks = start_ranks(alloc, numbers)?;
+    let mut ranks = start_ranks(pool, numbers, room_for(text))?;
     let mut rest = text;
     while let Some((part, after)) = first_part(rest) {
         if ranks.len() == MOST_PARTS {
@@ -135,7 +142,7 @@ fn read_ranks(alloc: Global, numbers: &[i64], text: &[u8]) -> Result<Literal, Nu
         }
         rest = after;
     }
-    match RankList::make(alloc, ranks) {
+    match RankList::make(pool, ranks) {
         Ok(list) => Ok(Literal::Ranks(list)),
         Err(_) => Err(NumberFault::NoMemory),
     }
@@ -143,11 +150,11 @@ fn read_ranks(alloc: Global, numbers: &[i64], text: &[u8]) -> Result<Literal, Nu
 
 /// The noun of a number word, or its ranks where a part is `_`.
 #[tactic(auto, using(crate::proofs::Readings::read_none, crate::proofs::Readings::read_number, crate::proofs::Readings::read_more, crate::proofs::Readings::read_fault, crate::proofs::Readings::read_beyond, crate::proofs::Readings::numbers_end, crate::proofs::Readings::fault_given, crate::proofs::Readings::memory_given))]
-pub fn read_list(alloc: Global, text: &[u8]) -> Result<Literal, NumberFault>
+pub fn read_list(pool: &mut Pool, text: &[u8]) -> Result<Literal, NumberFault>
     ensures ok { IfOk result (λ l. read text.now ≡ OkValue l) }
     ensures err { IfErr result (λ f. IsFaultOf (read text.now) f) }
 {
-    let mut numbers = Vec::new(alloc);
+    let mut numbers = pool.ints(room_for(text))?;
     let mut rest = text;
     while let Some((part, after)) = first_part(rest) {
         if numbers.len() == MOST_PARTS {
@@ -159,11 +166,11 @@ pub fn read_list(alloc: Global, text: &[u8]) -> Result<Literal, NumberFault>
                     return Err(NumberFault::NoMemory);
                 }
             }
-            RankPart::Infinite => return read_ranks(alloc, &numbers, after),
+            RankPart::Infinite => return read_ranks(pool, &numbers, after),
         }
         rest = after;
     }
-    Ok(Literal::Noun(make_noun(alloc, numbers)?))
+    Ok(Literal::Noun(make_noun(pool, numbers)?))
 }
 
 /// The number of a word that has one part, where it's a number.
@@ -183,14 +190,14 @@ fn only_number(text: &[u8]) -> Option<i64>
 
 /// The noun of a number word in which no part may be `_`.
 #[tactic(auto, using(crate::proofs::Readings::noun_none, crate::proofs::Readings::noun_number, crate::proofs::Readings::noun_fault, crate::proofs::Readings::noun_beyond, crate::proofs::Readings::noun_end, crate::proofs::Readings::all_finite, crate::proofs::Readings::fault_given, crate::proofs::Readings::memory_given))]
-pub fn read_noun(alloc: Global, text: &[u8]) -> Result<Noun, NumberFault>
+pub fn read_noun(pool: &mut Pool, text: &[u8]) -> Result<Noun, NumberFault>
     ensures ok { IfOk result (λ n. noun text.now ≡ OkValue n) }
     ensures err { IfErr result (λ f. IsFaultOf (noun text.now) f) }
 {
     if let Some(n) = only_number(text) {
         return Ok(Noun::number(n));
     }
-    let mut numbers = Vec::new(alloc);
+    let mut numbers = pool.ints(room_for(text))?;
     let mut rest = text;
     while let Some((part, after)) = first_part(rest) {
         if numbers.len() == MOST_PARTS {
@@ -206,5 +213,5 @@ pub fn read_noun(alloc: Global, text: &[u8]) -> Result<Noun, NumberFault>
         }
         rest = after;
     }
-    make_noun(alloc, numbers)
+    make_noun(pool, numbers)
 }

@@ -1,6 +1,6 @@
 -- What the vocabulary lets through are the words of the forms.
 use Rattle.std.proofs.Common.{◌≡◌, ℕ, zero, suc, ◌-◌, ◌||◌, Bool, true, false, cond, List, [], ◌∷◌, take, Option, Some, None, Result, Ok, Err, refl, sym, ap, subst}
-use Rattle.j_words.specs.Bytes.{is_blank}
+use Rattle.j_definitions.specs.Bytes.{is_blank}
 use Rattle.j_words.specs.Forms.{first}
 use Rattle.j_words.specs.Names.{is_simple, is_direct, is_object}
 use Rattle.j_words.specs.Vocabulary.{look_up, at_stage, let_through, class_or_name, class_of}
@@ -49,7 +49,7 @@ name_agrees true u f g = refl
 name_agrees false u f g = fault_agrees u f g (Ok class.Name)
 
 class_agrees : (f : Form) (word : List ℕ) → Agree (class_of Strict f word) (class_of Formal f word)
-class_agrees form.Text word = tt
+class_agrees form.Text word = refl
 class_agrees form.Number word = refl
 class_agrees form.Name word = name_agrees (is_simple word) (is_direct word || is_object word) _ _
 class_agrees form.Listed word = entry_agrees (look_up word)

@@ -1,7 +1,8 @@
 -- The forms alone know no word that is left out.
 use Rattle.std.proofs.Common.{◌≡◌, ℕ, zero, suc, ◌-◌, ◌==◌, ◌||◌, Bool, true, false, cond, List, [], ◌∷◌, take, Option, Some, None, Result, Ok, Err, subst}
 use Rattle.std.specs.Char.{is_ascii_digit, is_ascii_alphabetic}
-use Rattle.j_words.specs.Bytes.{is_blank, is_graphic}
+use Rattle.j_definitions.specs.Bytes.{is_blank}
+use Rattle.j_words.specs.Bytes.{is_graphic}
 use Rattle.j_words.specs.Forms.{text_bytes, closed, is_comment, first}
 use Rattle.j_words.specs.Vocabulary.{class_of}
 use Rattle.j_words.specs.Lines.{with_word, classed, begun, formed, IsFault}

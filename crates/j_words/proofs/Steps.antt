@@ -1,7 +1,7 @@
 -- One turn of a line.
 use Rattle.std.proofs.Common.{◌≡◌, ℕ, zero, suc, ◌+◌, ◌-◌, ◌<◌, ◌≤◌, true, false, cond, List, [], ◌∷◌, length, take, drop, get_or, Some, None, Result, Ok, Err, refl, sym, ap, ◌∙◌, arith}
 use Rattle.std.proofs.lemmas.List.{drop_more, drop_all, drop-drop}
-use Rattle.j_words.specs.Bytes.{is_blank}
+use Rattle.j_definitions.specs.Bytes.{is_blank}
 use Rattle.j_words.specs.Forms.{first}
 use Rattle.j_words.specs.Vocabulary.{class_of}
 use Rattle.j_words.specs.Lines.{joined, with_word, classed, begun, formed}

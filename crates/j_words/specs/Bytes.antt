@@ -5,10 +5,6 @@ use Rattle.std.specs.Char.{is_ascii_alphanumeric}
 use Rattle.j_words.specs.declared.bytes.Set.{Set}
 use Rattle.j_words.specs.declared.bytes.Set.TheVariants.{Name, Part, Mark}
 
--- a space or a tab
-abbrev pub is_blank : ℕ → Bool
-is_blank b = (b == 32) || (b == 9)
-
 abbrev pub is_graphic : ℕ → Bool
 is_graphic b = nat_le 33 b && nat_le b 126
 

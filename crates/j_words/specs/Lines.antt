@@ -1,6 +1,6 @@
 -- The words of a whole line, or its leftmost fault.
 use Rattle.std.specs.Prelude.{◌≡◌, ◌<◌, ◌≤◌, ℕ, zero, suc, ◌+◌, ◌-◌, ◌&&◌, Bool, true, false, cond, List, [], ◌∷◌, take, Option, Some, None, Result, Ok, Err}
-use Rattle.j_words.specs.Bytes.{is_blank}
+use Rattle.j_definitions.specs.Bytes.{is_blank}
 use Rattle.j_words.specs.Forms.{first}
 use Rattle.j_words.specs.Vocabulary.{class_of}
 use Rattle.j_words.specs.declared.Class.{Class}

@@ -26,17 +26,17 @@ row c s t = record { text = t; class = c; stage = s }
 
 abbrev pub vocabulary : List Words
 vocabulary =
-    row class.Verb Now (codes "+ - * [ ] [: _9: _8: _7: _6: _5: _4: _3: _2: _1: 0: 1: 2: 3: 4: 5: 6: 7: 8: 9:")
-    ∷ row class.Conjunction Now (codes "@:")
+    row class.Verb Now (codes "+ - * % ^ | <. >. <: >: +: *: +. *. -. -: < > = ~: [ ] [: _9: _8: _7: _6: _5: _4: _3: _2: _1: 0: 1: 2: 3: 4: 5: 6: 7: 8: 9:")
+    ∷ row class.Adverb Now (codes "~")
+    ∷ row class.Conjunction Now (codes "\" @ @: & &: ^:")
     ∷ row class.Copula Now (codes "=. =:")
     ∷ row class.Open Now (codes "(")
     ∷ row class.Close Now (codes ")")
-    ∷ row class.Verb Later (codes "% ^ | <. >. <: >: +: *: +. *. -. -: < > = ~:")
     ∷ row class.Verb Later (codes "$ , ,. ,: ; ;: # |. |: {. {: }. }: { i. i: I. \":")
     ∷ row class.Verb Later (codes "e. ~. /: \\: #. #:")
     ∷ row class.NounWord Later (codes "a. a:")
-    ∷ row class.Adverb Later (codes "~ } / /. \\ \\.")
-    ∷ row class.Conjunction Later (codes "\" @ & &: ^: &. . ;. : ::")
+    ∷ row class.Adverb Later (codes "} / /. \\ \\.")
+    ∷ row class.Conjunction Later (codes "&. . ;. : ::")
     ∷ row class.Control Later (codes "if. do. elseif. else. end. while. whilst. for. select. case. fcase. try. catch. assert. break. continue. return.")
     ∷ row class.Name LeftOut (codes "%. %: ^. ! !. !: $. $: ? ?. A. C. D. D: E. H. L. L: M. S: T. b. d. f. j. o. p. p.. p: q: r. s: t. t: u: x: .. .: {:: &.: ` `: @. _: \".")
     ∷ []
@@ -87,8 +87,7 @@ class_or_name (Some e) = e.class
 -- The class of a word of a form, or its fault. The forms alone know no fault here.
 abbrev pub class_of : Reading → Form → List ℕ → Result Class WordFault
 class_of r form.Number word = Ok class.Number
-class_of Strict form.Text word = Err Nonce
-class_of Formal form.Text word = Ok class.Text
+class_of r form.Text word = Ok class.Text
 class_of Strict form.Name word = name_class word
 class_of Formal form.Name word = Ok class.Name
 class_of Strict form.Listed word = let_through (look_up word)

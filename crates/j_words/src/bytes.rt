@@ -1,6 +1,7 @@
 // The bytes of words.
 ghost use Rattle.std.specs.Prelude.{◌≡◌, ◌≤◌, length};
-ghost use Rattle.j_words.specs.Bytes.{is_blank, is_in, is_graphic, run};
+ghost use Rattle.j_definitions.specs.Bytes.{is_blank};
+ghost use Rattle.j_words.specs.Bytes.{is_in, is_graphic, run};
 
 /// The bytes that may go on a word.
 #[derive(Clone, Copy)]

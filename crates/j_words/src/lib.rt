@@ -1,6 +1,9 @@
 //! The words of a line.
 #![tactic(auto)]
 
+ghost use Rattle.std.specs.Prelude.{◌≡◌};
+ghost use Rattle.j_words.specs.declared.WordFault.TheVariants.{NoMemory as WordMemory};
+
 mod bytes;
 mod forms;
 mod line;
@@ -8,9 +11,11 @@ mod names;
 mod rows;
 mod vocabulary;
 
+use j_pool::NoMemory;
 pub use line::{spans, words};
 pub use names::{NameForm, name_form};
 pub use rows::{name_laws, text_laws, vocabulary_laws, worked_rows};
+use std::alloc::AllocError;
 
 /// What a word is.
 #[derive(Clone, Copy, PartialEq, Eq, Debug)]
@@ -43,4 +48,20 @@ pub enum WordFault {
     Spelling,
     Nonce,
     NoMemory,
+}
+
+impl From<NoMemory> for WordFault {
+    ghost from_gives = { λ _ e. e ≡ WordMemory };
+
+    fn from(_e: NoMemory) -> WordFault {
+        WordFault::NoMemory
+    }
+}
+
+impl From<AllocError> for WordFault {
+    ghost from_gives = { λ _ e. e ≡ WordMemory };
+
+    fn from(_e: AllocError) -> WordFault {
+        WordFault::NoMemory
+    }
 }

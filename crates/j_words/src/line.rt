@@ -2,14 +2,17 @@
 ghost use Rattle.std.specs.Prelude.{false, ◌≡◌, ◌≢◌, ◌≤◌, ◌<◌, ◌∷◌, [], length, drop, Ok as OkValue, Err as ErrValue, IfOk, IfErr, IfSome, IfNone, OnOk, slice_index_or as get_or};
 ghost use Rattle.j_words.specs.Lines.{words, spans, formed, joined, with_word, is_number, IsFault, Lie, IsWithin};
 ghost use Rattle.std.specs.List.{All};
-ghost use Rattle.j_words.specs.Bytes.{is_blank};
+ghost use Rattle.j_definitions.specs.Bytes.{is_blank};
 ghost use Rattle.j_words.specs.Joins.{ends_number};
 
 use crate::bytes::is_blank;
 use crate::forms::first;
 use crate::vocabulary::class_of;
 use crate::{Class, Word, WordFault};
-use std::alloc::Global;
+use j_pool::Pool;
+
+// The words that a line has room for at first.
+const FEW_WORDS: usize = 16;
 
 /// Whether words have to be of the vocabulary.
 #[derive(Clone, Copy)]
@@ -33,6 +36,20 @@ fn ends_number(found: &[Word]) -> bool
     ensures { result ≡ ends_number found.now }
 {
     !found.is_empty() && is_number(found[found.len() - 1].class)
+}
+
+/// Room for a word more. A full buffer is left for one of twice its words.
+fn make_room(pool: &mut Pool, found: &mut Vec<Word>) -> Result<(), WordFault>
+    ensures same { found.new.items ≡ found.old.items }
+    ensures err { IfErr result (λ f. f ≡ WordFault.NoMemory) }
+{
+    if found.len() < found.capacity() {
+        return Ok(());
+    }
+    let mut larger = pool.fresh(found.len().saturating_mul(2).saturating_add(1))?;
+    larger.extend_from_slice(found)?;
+    *found = larger;
+    Ok(())
 }
 
 /// Adds a word. A number word right of a number word goes on with it.
@@ -78,13 +95,13 @@ fn word_at(line: &[u8], at: usize, reading: Reading) -> Result<Option<Word>, Wor
 
 /// The words of a line.
 #[tactic(auto, using(crate::proofs::Steps::ended, crate::proofs::Steps::blank_more, crate::proofs::Steps::onto_none, crate::proofs::Steps::onto_word, crate::proofs::Steps::onto_end, crate::proofs::Lying::lie_added, crate::proofs::Lying::lie_further))]
-fn form(alloc: Global, line: &[u8], reading: Reading) -> Result<Vec<Word>, WordFault>
+fn form(pool: &mut Pool, line: &[u8], reading: Reading) -> Result<Vec<Word>, WordFault>
     requires { length line.now ≤ 16777216 }
     ensures ok { IfOk result (λ v. formed reading 0 0 line.now ≡ OkValue v.items) }
     ensures err { IfErr result (λ f. IsFault (formed reading 0 0 line.now) f) }
     ensures lie { IfOk result (λ v. Lie 0 (length line.now) v.items) }
 {
-    let mut found = Vec::new(alloc);
+    let mut found = pool.fresh(line.len().min(FEW_WORDS))?;
     let mut at: usize = 0;
     'words: while at < line.len() {
         if is_blank(line[at]) {
@@ -94,6 +111,7 @@ fn form(alloc: Global, line: &[u8], reading: Reading) -> Result<Vec<Word>, WordF
         let Some(word) = word_at(line, at, reading)? else {
             return Ok(found);
         };
+        make_room(pool, &mut found)?;
         add(&mut found, word)?;
         at = word.to as usize;
     }
@@ -102,7 +120,7 @@ fn form(alloc: Global, line: &[u8], reading: Reading) -> Result<Vec<Word>, WordF
 
 /// The words of a line, or its leftmost fault.
 #[tactic(auto, using(crate::proofs::Lying::lie_few, crate::proofs::Lying::lie_within, crate::proofs::Agreeing::same_words))]
-pub fn words(alloc: Global, line: &[u8]) -> Result<Vec<Word>, WordFault>
+pub fn words(pool: &mut Pool, line: &[u8]) -> Result<Vec<Word>, WordFault>
     requires { length line.now ≤ 16777216 }
     ensures ok { IfOk result (λ v. words line.now ≡ OkValue v.items) }
     ensures err { IfErr result (λ f. IsFault (words line.now) f) }
@@ -111,12 +129,12 @@ pub fn words(alloc: Global, line: &[u8]) -> Result<Vec<Word>, WordFault>
     ensures within { IfOk result (λ v. All (IsWithin (length line.now)) v.items) }
     ensures few { IfOk result (λ v. length v.items ≤ length line.now) }
 {
-    form(alloc, line, Reading::Strict)
+    form(pool, line, Reading::Strict)
 }
 
 /// The words of a line as their forms give them. A word that isn't of the vocabulary has the class of a name.
 #[tactic(auto, using(crate::proofs::Lying::lie_few, crate::proofs::Lying::lie_within))]
-pub fn spans(alloc: Global, line: &[u8]) -> Result<Vec<Word>, WordFault>
+pub fn spans(pool: &mut Pool, line: &[u8]) -> Result<Vec<Word>, WordFault>
     requires { length line.now ≤ 16777216 }
     ensures ok { IfOk result (λ v. spans line.now ≡ OkValue v.items) }
     ensures err { IfErr result (λ f. IsFault (spans line.now) f) }
@@ -125,5 +143,5 @@ pub fn spans(alloc: Global, line: &[u8]) -> Result<Vec<Word>, WordFault>
     ensures within { IfOk result (λ v. All (IsWithin (length line.now)) v.items) }
     ensures few { IfOk result (λ v. length v.items ≤ length line.now) }
 {
-    form(alloc, line, Reading::Formal)
+    form(pool, line, Reading::Formal)
 }

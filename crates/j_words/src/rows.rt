@@ -21,8 +21,8 @@ pub fn worked_rows()
     ensures no_constant { words (codes "_0:") ≡ Err fault.Spelling }
     ensures infinite_constant { words (codes "_:") ≡ Err fault.Nonce }
     ensures two_words { spans (codes "i.1") ≡ Ok (is_word class.Verb 0 2 ∷ is_word class.Number 2 3 ∷ []) }
-    ensures doubled_quote { spans (codes "'it''s'") ≡ Ok (is_word class.Text 0 7 ∷ []) }
-    ensures text_after_numbers { spans (codes "1 2'x'") ≡ Ok (is_word class.Number 0 3 ∷ is_word class.Text 3 6 ∷ []) }
+    ensures doubled_quote { words (codes "'it''s'") ≡ Ok (is_word class.Text 0 7 ∷ []) }
+    ensures text_after_numbers { words (codes "1 2'x'") ≡ Ok (is_word class.Number 0 3 ∷ is_word class.Text 3 6 ∷ []) }
     ensures open_quote { words (codes "'abc") ≡ Err fault.OpenQuote }
     ensures copulas { spans (codes "=:=.") ≡ Ok (is_word class.Copula 0 2 ∷ is_word class.Copula 2 4 ∷ []) }
     ensures left_out { words (codes "{::") ≡ Err fault.Nonce }
@@ -35,14 +35,20 @@ pub fn worked_rows()
     ensures control { words (codes "for_ab.") ≡ Err fault.Nonce }
     ensures no_control { words (codes "for_a_.") ≡ Err fault.Spelling }
     ensures left_throw { words (codes "throw.") ≡ Err fault.Spelling }
-    ensures leftmost { words (codes "% abc. 'x") ≡ Err fault.Nonce }
+    ensures leftmost { words (codes "$ abc. 'x") ≡ Err fault.Nonce }
     ensures no_byte { words (127 ∷ codes " 'x") ≡ Err fault.Spelling }
     ensures part_letters { words (codes "3x1.5_") ≡ Ok (is_word class.Number 0 6 ∷ []) }
     ensures sentence { words (codes "x=:(+@:-)5") ≡ Ok (is_word class.Name 0 1 ∷ is_word class.Copula 1 3 ∷ is_word class.Open 3 4 ∷ is_word class.Verb 4 5 ∷ is_word class.Conjunction 5 7 ∷ is_word class.Verb 7 8 ∷ is_word class.Close 8 9 ∷ is_word class.Number 9 10 ∷ []) }
-    ensures only_double_quote { words (codes "\"") ≡ Err fault.Nonce }
+    ensures only_double_quote { words (codes "\"") ≡ Ok (is_word class.Conjunction 0 1 ∷ []) }
     ensures suffix { spans (codes "+/\\.1") ≡ Ok (is_word class.Verb 0 1 ∷ is_word class.Adverb 1 2 ∷ is_word class.Adverb 2 4 ∷ is_word class.Number 4 5 ∷ []) }
     ensures empty_text { spans (codes "'','a'") ≡ Ok (is_word class.Text 0 2 ∷ is_word class.Verb 2 3 ∷ is_word class.Text 3 6 ∷ []) }
     ensures no_words { words (codes "  NB. x") ≡ Ok [] }
+    ensures text_at_end { words (codes "-'a'") ≡ Ok (is_word class.Verb 0 1 ∷ is_word class.Text 1 4 ∷ []) }
+    ensures control_in_text { words (codes "'if. do.' NB. 'x") ≡ Ok (is_word class.Text 0 9 ∷ []) }
+    ensures comment_in_text { words (codes "'NB. x'") ≡ Ok (is_word class.Text 0 7 ∷ []) }
+    ensures any_byte_in_text { words (39 ∷ 10 ∷ 200 ∷ 39 ∷ []) ≡ Ok (is_word class.Text 0 4 ∷ []) }
+    ensures texts_apart { words (codes "'a' 'b'") ≡ Ok (is_word class.Text 0 3 ∷ is_word class.Text 4 7 ∷ []) }
+    ensures text_of_a_quote { words (codes "''''") ≡ Ok (is_word class.Text 0 4 ∷ []) }
     ensures open_after_closed { words (codes "'a''") ≡ Err fault.OpenQuote }
     ensures no_letter_in_object { words (codes "a__1") ≡ Err fault.Spelling }
     ensures locale_of_digits { words (codes "a_0_") ≡ Err fault.Nonce }

@@ -32,12 +32,17 @@ pub(crate) struct Row {
 
 pub(crate) const VOCABULARY: [Row; 13] = [
     Row {
-        words: b"+ - * [ ] [: _9: _8: _7: _6: _5: _4: _3: _2: _1: 0: 1: 2: 3: 4: 5: 6: 7: 8: 9:",
+        words: b"+ - * % ^ | <. >. <: >: +: *: +. *. -. -: < > = ~: [ ] [: _9: _8: _7: _6: _5: _4: _3: _2: _1: 0: 1: 2: 3: 4: 5: 6: 7: 8: 9:",
         class: Class::Verb,
         stage: Stage::Now,
     },
     Row {
-        words: b"@:",
+        words: b"~",
+        class: Class::Adverb,
+        stage: Stage::Now,
+    },
+    Row {
+        words: b"\" @ @: & &: ^:",
         class: Class::Conjunction,
         stage: Stage::Now,
     },
@@ -57,11 +62,6 @@ pub(crate) const VOCABULARY: [Row; 13] = [
         stage: Stage::Now,
     },
     Row {
-        words: b"% ^ | <. >. <: >: +: *: +. *. -. -: < > = ~:",
-        class: Class::Verb,
-        stage: Stage::Later,
-    },
-    Row {
         words: b"$ , ,. ,: ; ;: # |. |: {. {: }. }: { i. i: I. \":",
         class: Class::Verb,
         stage: Stage::Later,
@@ -77,12 +77,12 @@ pub(crate) const VOCABULARY: [Row; 13] = [
         stage: Stage::Later,
     },
     Row {
-        words: b"~ } / /. \\ \\.",
+        words: b"} / /. \\ \\.",
         class: Class::Adverb,
         stage: Stage::Later,
     },
     Row {
-        words: b"\" @ & &: ^: &. . ;. : ::",
+        words: b"&. . ;. : ::",
         class: Class::Conjunction,
         stage: Stage::Later,
     },
@@ -202,8 +202,7 @@ pub(crate) fn class_of(reading: Reading, form: Form, word: &[u8]) -> Result<Clas
 {
     match (reading, form) {
         (_, Form::Number) => Ok(Class::Number),
-        (Reading::Strict, Form::Text) => Err(WordFault::Nonce),
-        (Reading::Formal, Form::Text) => Ok(Class::Text),
+        (_, Form::Text) => Ok(Class::Text),
         (Reading::Strict, Form::Name) => name_class(word),
         (Reading::Formal, Form::Name) => Ok(Class::Name),
         (Reading::Strict, Form::Listed) => let_through(word),

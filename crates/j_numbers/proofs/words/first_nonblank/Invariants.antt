@@ -1,5 +1,5 @@
 use Rattle.std.proofs.Common.{◌≡◌, ℕ, ◌<◌, true, get_or}
-use Rattle.j_numbers.specs.Numbers.{is_blank}
+use Rattle.j_definitions.specs.Bytes.{is_blank}
 use Rattle.j_numbers.proofs.words.first_nonblank.Given as goal
 
 abbrev pub invariant-loop-place : goal.invariant-loop-place

@@ -108,3 +108,21 @@ returns-clause-locale_of_digits c = refl
 
 pub returns-clause-low_alone : goal.returns-clause-low_alone
 returns-clause-low_alone c = refl
+
+pub returns-clause-text_at_end : goal.returns-clause-text_at_end
+returns-clause-text_at_end c = refl
+
+pub returns-clause-control_in_text : goal.returns-clause-control_in_text
+returns-clause-control_in_text c = refl
+
+pub returns-clause-comment_in_text : goal.returns-clause-comment_in_text
+returns-clause-comment_in_text c = refl
+
+pub returns-clause-any_byte_in_text : goal.returns-clause-any_byte_in_text
+returns-clause-any_byte_in_text c = refl
+
+pub returns-clause-texts_apart : goal.returns-clause-texts_apart
+returns-clause-texts_apart c = refl
+
+pub returns-clause-text_of_a_quote : goal.returns-clause-text_of_a_quote
+returns-clause-text_of_a_quote c = refl
