@@ -5,6 +5,7 @@ ghost use Rattle.j_entity.specs.Heights.{verb_height, operator_height};
 ghost use Rattle.j_entity.specs.Kept.{IsMade, IsMadeOperator};
 ghost use Rattle.j_entity.specs.Lent.{lent_verb, lent_operator};
 ghost use Rattle.j_entity.specs.Ranks.{verb_ranks};
+ghost use Rattle.j_entity.specs.Tree.{primitive, named, modifier};
 ghost use Rattle.j_entity.specs.View.{verb_of, operand_of, operator_of, word_of, placed, entity_of};
 ghost use Rattle.j_entity.specs.Words.{is_primitive, is_modifier, IsInlineOperand, IsInlineEntity};
 
@@ -18,6 +19,19 @@ use std::rc::Rc;
 
 /// Nothing is made higher than this.
 const HEIGHT_LIMIT: u8 = 64;
+
+// Lets go of a value.
+fn discard<T: Drop>(_value: T) {}
+
+// A value with an owner that can be shared.
+fn owned<T: Drop>(alloc: Global, value: T) -> Result<Rc<T>, NoMemory>
+    ensures { IfOk result (λ r. r.value ≡ value) }
+{
+    match Rc::new(alloc, value) {
+        Ok(r) => Ok(r),
+        Err(_) => Err(NoMemory),
+    }
+}
 
 /// The parts of a verb: one variant for each kind of tree.
 #[cycle(entity)]
@@ -251,6 +265,22 @@ impl Model for Body {
 }
 
 impl Verb {
+    /// The verb that a word is.
+    pub fn primitive(p: Primitive) -> Verb
+        ensures { result ≡ primitive p }
+    {
+        Verb {
+            form: VerbForm::Primitive(p),
+        }
+    }
+
+    /// The verb that a name is, with the ranks that it carries.
+    pub fn named(alloc: Global, name: Name, ranks: Ranks) -> Result<Verb, NoMemory>
+        ensures { IfOk result (λ v. v ≡ named name ranks) }
+    {
+        kept_verb(alloc, Parts::Named(name, ranks), 0, ranks)
+    }
+
     /// The verb of these parts. A primitive takes no memory.
     pub fn derive(alloc: Global, parts: Parts) -> Result<Verb, Refusal>
         ensures ok { IfOk result (λ v. (v ≡ verb_of parts) × (verb_height (verb_of parts) ≤ 64)) }
@@ -258,9 +288,7 @@ impl Verb {
         ensures primitive { IsTrue (is_primitive (verb_of parts)) → IsOk result }
     {
         match parts {
-            Parts::Primitive(p) => Ok(Verb {
-                form: VerbForm::Primitive(p),
-            }),
+            Parts::Primitive(p) => Ok(Verb::primitive(p)),
             parts => made_verb(alloc, parts),
         }
     }
@@ -291,9 +319,7 @@ impl Verb {
         ensures primitive { IsTrue (is_primitive self.now) → IsOk result }
     {
         match &self.form {
-            VerbForm::Primitive(p) => Ok(Verb {
-                form: VerbForm::Primitive(*p),
-            }),
+            VerbForm::Primitive(p) => Ok(Verb::primitive(*p)),
             VerbForm::Made(made) => match made.clone() {
                 Ok(made) => Ok(Verb {
                     form: VerbForm::Made(made),
@@ -322,6 +348,7 @@ fn made_verb(alloc: Global, parts: Parts) -> Result<Verb, Refusal>
 {
     let height = parts.height();
     if height > HEIGHT_LIMIT {
+        discard(parts);
         return Err(Refusal::Fault(Fault::Limit));
     }
     let ranks = parts.ranks();
@@ -332,18 +359,24 @@ fn shared_verb(alloc: Global, parts: Parts, height: u8, ranks: Ranks) -> Result<
     requires { IsMade height ranks (verb_of parts) }
     ensures { IfOk result (λ v. v ≡ verb_of parts) }
 {
-    let parts = parts.share(alloc)?;
+    match parts.share(alloc) {
+        Ok(parts) => kept_verb(alloc, parts, height, ranks),
+        Err(_) => Err(NoMemory),
+    }
+}
+
+fn kept_verb(alloc: Global, parts: Parts, height: u8, ranks: Ranks) -> Result<Verb, NoMemory>
+    requires { IsMade height ranks (verb_of parts) }
+    ensures { IfOk result (λ v. v ≡ verb_of parts) }
+{
     let made = MadeVerb {
         parts,
         height,
         ranks,
     };
-    match Rc::new(alloc, made) {
-        Ok(made) => Ok(Verb {
-            form: VerbForm::Made(made),
-        }),
-        Err(_) => Err(NoMemory),
-    }
+    Ok(Verb {
+        form: VerbForm::Made(owned(alloc, made)?),
+    })
 }
 
 impl Body {
@@ -352,12 +385,9 @@ impl Body {
         ensures { IfOk result (λ b. b ≡ self) }
     {
         match self.held {
-            Held::Own(parts) => match Rc::new(alloc, parts) {
-                Ok(parts) => Ok(Body {
-                    held: Held::Shared(parts),
-                }),
-                Err(_) => Err(NoMemory),
-            },
+            Held::Own(parts) => Ok(Body {
+                held: Held::Shared(owned(alloc, parts)?),
+            }),
             Held::Shared(parts) => Ok(Body {
                 held: Held::Shared(parts),
             }),
@@ -372,8 +402,21 @@ impl Parts {
     {
         match self {
             Parts::Explicit(b) => Ok(Parts::Explicit(b.share(alloc)?)),
-            Parts::Explicit1(b, u) => Ok(Parts::Explicit1(b.share(alloc)?, u)),
-            Parts::Explicit2(b, u, v) => Ok(Parts::Explicit2(b.share(alloc)?, u, v)),
+            Parts::Explicit1(b, u) => match b.share(alloc) {
+                Ok(b) => Ok(Parts::Explicit1(b, u)),
+                Err(e) => {
+                    discard(u);
+                    Err(e)
+                }
+            },
+            Parts::Explicit2(b, u, v) => match b.share(alloc) {
+                Ok(b) => Ok(Parts::Explicit2(b, u, v)),
+                Err(e) => {
+                    discard(u);
+                    discard(v);
+                    Err(e)
+                }
+            },
             other => Ok(other),
         }
     }
@@ -392,6 +435,15 @@ impl OperatorParts {
 }
 
 impl Operator {
+    /// The operator that a word is.
+    pub fn modifier(m: Modifier) -> Operator
+        ensures { result ≡ modifier m }
+    {
+        Operator {
+            form: OperatorForm::Primitive(m),
+        }
+    }
+
     /// The operator of these parts. A modifier takes no memory.
     pub fn derive(alloc: Global, parts: OperatorParts) -> Result<Operator, Refusal>
         ensures ok { IfOk result (λ o. (o ≡ operator_of parts) × (operator_height (operator_of parts) ≤ 64)) }
@@ -399,9 +451,7 @@ impl Operator {
         ensures modifier { IsTrue (is_modifier (operator_of parts)) → IsOk result }
     {
         match parts {
-            OperatorParts::Primitive(m) => Ok(Operator {
-                form: OperatorForm::Primitive(m),
-            }),
+            OperatorParts::Primitive(m) => Ok(Operator::modifier(m)),
             parts => made_operator(alloc, parts),
         }
     }
@@ -423,9 +473,7 @@ impl Operator {
         ensures modifier { IsTrue (is_modifier self.now) → IsOk result }
     {
         match &self.form {
-            OperatorForm::Primitive(m) => Ok(Operator {
-                form: OperatorForm::Primitive(*m),
-            }),
+            OperatorForm::Primitive(m) => Ok(Operator::modifier(*m)),
             OperatorForm::Made(made) => match made.clone() {
                 Ok(made) => Ok(Operator {
                     form: OperatorForm::Made(made),
@@ -454,6 +502,7 @@ fn made_operator(alloc: Global, parts: OperatorParts) -> Result<Operator, Refusa
 {
     let height = parts.height();
     if height > HEIGHT_LIMIT {
+        discard(parts);
         return Err(Refusal::Fault(Fault::Limit));
     }
     Ok(shared_operator(alloc, parts, height)?)
@@ -464,12 +513,10 @@ fn shared_operator(alloc: Global, parts: OperatorParts, height: u8) -> Result<Op
     ensures { IfOk result (λ o. o ≡ operator_of parts) }
 {
     let parts = parts.share(alloc)?;
-    match Rc::new(alloc, MadeOperator { parts, height }) {
-        Ok(made) => Ok(Operator {
-            form: OperatorForm::Made(made),
-        }),
-        Err(_) => Err(NoMemory),
-    }
+    let made = MadeOperator { parts, height };
+    Ok(Operator {
+        form: OperatorForm::Made(owned(alloc, made)?),
+    })
 }
 
 impl Operand {

@@ -1,6 +1,6 @@
 // The ranks of verbs.
-ghost use Rattle.std.specs.Prelude.{◌≡◌, map};
-ghost use Rattle.j_definitions.specs.Array.{number};
+ghost use Rattle.std.specs.Prelude.{◌≡◌, map, pos};
+ghost use Rattle.j_definitions.specs.Array.{number, byte, boxed};
 ghost use Rattle.j_entity.specs.Ranks as spec;
 ghost use Rattle.j_entity.specs.View.{verb_of, operand_of};
 
@@ -78,6 +78,40 @@ fn number_ranks(l: &[i64]) -> Ranks
     }
 }
 
+#[tactic(auto, using(crate::proofs::Numbers::many_bits))]
+fn bit_ranks(l: &[u8]) -> Ranks
+    ensures { result ≡ spec.listed_ranks (spec.numbers_in (map (λ b. number (pos b)) l.now)) }
+{
+    match l {
+        [a] => same(Rank::Number(i64::from(*a))),
+        [a, b] => three(
+            Rank::Number(i64::from(*b)),
+            Rank::Number(i64::from(*a)),
+            Rank::Number(i64::from(*b)),
+        ),
+        [a, b, c] => three(
+            Rank::Number(i64::from(*a)),
+            Rank::Number(i64::from(*b)),
+            Rank::Number(i64::from(*c)),
+        ),
+        _ => ENDLESS,
+    }
+}
+
+#[tactic(auto, using(crate::proofs::Numbers::no_bytes))]
+fn byte_ranks(_bytes: &[u8]) -> Ranks
+    ensures { result ≡ spec.listed_ranks (spec.numbers_in (map byte _bytes.now)) }
+{
+    ENDLESS
+}
+
+#[tactic(auto, using(crate::proofs::Numbers::no_boxes))]
+fn box_ranks(_boxes: &[Noun]) -> Ranks
+    ensures { result ≡ spec.listed_ranks (spec.numbers_in (map boxed _boxes.now)) }
+{
+    ENDLESS
+}
+
 fn noun_ranks(n: &Noun) -> Ranks
     ensures { result ≡ spec.noun_ranks n.now }
 {
@@ -86,6 +120,9 @@ fn noun_ranks(n: &Noun) -> Ranks
     }
     match n.view() {
         View::Wholes(numbers) => number_ranks(numbers),
+        View::Bits(bits) => bit_ranks(bits),
+        View::Bytes(bytes) => byte_ranks(bytes),
+        View::Boxes(boxes) => box_ranks(boxes),
     }
 }
 

@@ -1,14 +1,15 @@
 // The names of a run, kept as a list of rows that nobody else sees.
-ghost use Rattle.std.specs.Prelude.{◌≡◌, ◌↔◌, None, IfSome, IfOk, IsOk, IsTrue, OnOk, OnErr, is_some, option_map};
+ghost use Rattle.std.specs.Prelude.{◌≡◌, ◌↔◌, Some, None, Ok, Err, IfSome, IfOk, IfErr, IsOk, IsTrue, MatchResult, OnOk, OnErr, option_map};
 ghost use Rattle.std.specs.FinMap as map;
 ghost use Rattle.std.specs.List.{position_from};
+ghost use Rattle.j_entity.specs.Tree.{EntityTree};
 ghost use Rattle.j_entity.specs.View.{entity_of};
-ghost use Rattle.j_names.specs.Names.{look, assign};
+ghost use Rattle.j_names.specs.Names.{look, assign, IsRefused};
 ghost use Rattle.j_names.specs.Kept.{has_base, kept};
 
 use j_entity::Entity;
 use j_leaves::{Name, Place, Text};
-use j_noun::NoMemory;
+use j_noun::{Fault, NoMemory, Refusal};
 use std::alloc::Global;
 use std::marker::Model;
 
@@ -81,27 +82,14 @@ fn replace(rows: &mut Vec<Row>, base: &Text, value: Entity) -> Option<Entity>
     }
 }
 
-// A row for a name that has none.
+// A row behind the others, which counts where no other has its name.
 fn append(rows: &mut Vec<Row>, row: Row) -> Result<(), NoMemory>
-    requires { map.get (kept rows.old.items) row.name.base ≡ None }
-    ensures ok { OnOk result (kept rows.new.items ≡ map.insert (kept rows.old.items) row.name.base (entity_of row.value)) }
+    ensures ok { OnOk result (map.get (kept rows.old.items) row.name.base ≡ None → kept rows.new.items ≡ map.insert (kept rows.old.items) row.name.base (entity_of row.value)) }
     ensures err { OnErr result (rows.new.items ≡ rows.old.items) }
 {
     match rows.push(row) {
         Ok(()) => Ok(()),
         Err(_) => Err(NoMemory),
-    }
-}
-
-// The value of a name, in the row that it has or in a new one.
-fn put(rows: &mut Vec<Row>, name: Name, value: Entity) -> Result<(), NoMemory>
-    ensures ok { OnOk result (kept rows.new.items ≡ map.insert (kept rows.old.items) name.base (entity_of value)) }
-    ensures err { OnErr result (rows.new.items ≡ rows.old.items) }
-    ensures again { IsTrue (map.contains_key (kept rows.old.items) name.base) → IsOk result }
-{
-    match replace(rows, name.base(), value) {
-        None => Ok(()),
-        Some(value) => append(rows, Row { name, value }),
     }
 }
 
@@ -115,25 +103,30 @@ impl Names {
         })
     }
 
-    /// What a simple name holds. A locative isn't looked up yet.
-    pub fn get(&self, name: &Name) -> Option<&Entity>
-        ensures { option_map (λ e. entity_of e.now) result ≡ look self.now name.now }
+    /// What a name holds. A locative is `nonce error` until locales come.
+    pub fn get(&self, name: &Name) -> Result<Option<&Entity>, Fault>
+        ensures { MatchResult result (λ o. look self.now name.now ≡ Ok (option_map (λ e. entity_of e.now) o)) (λ f. look self.now name.now ≡ Err f) }
     {
         match name.place() {
-            Place::Here => value_of(&self.rows, name.base()),
-            Place::Locale(_) | Place::Object(_) => None,
+            Place::Here => Ok(value_of(&self.rows, name.base())),
+            Place::Locale(_) | Place::Object(_) => Err(Fault::Nonce),
         }
     }
 
-    /// Lets a simple name hold this entity in place of what it held. A locative changes nothing yet.
-    pub fn set(&mut self, name: Name, value: Entity) -> Result<(), NoMemory>
-        ensures ok { OnOk result (self.new ≡ assign self.old name (entity_of value)) }
-        ensures err { OnErr result (self.new ≡ self.old) }
-        ensures again { IsTrue (is_some (look self.old name)) → IsOk result }
+    /// Lets a name hold this entity in place of what it held.
+    pub fn set(&mut self, name: Name, value: Entity) -> Result<(), Refusal>
+        ensures ok { OnOk result (assign self.old name (entity_of value) ≡ Ok self.new) }
+        ensures err { IfErr result (λ r. IsRefused (assign self.old name (entity_of value)) r) }
+        ensures unchanged { OnErr result (self.new ≡ self.old) }
+        ensures again { (held : EntityTree) → look self.old name ≡ Ok (Some held) → IsOk result }
     {
         match name.place() {
-            Place::Here => put(&mut self.rows, name, value),
-            Place::Locale(_) | Place::Object(_) => Ok(()),
+            Place::Here => {}
+            Place::Locale(_) | Place::Object(_) => return Err(Refusal::Fault(Fault::Nonce)),
+        }
+        match replace(&mut self.rows, name.base(), value) {
+            None => Ok(()),
+            Some(value) => Ok(append(&mut self.rows, Row { name, value })?),
         }
     }
 }

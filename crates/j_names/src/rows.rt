@@ -1,28 +1,30 @@
 // Names worked out by hand, and laws of their definitions.
-ghost use Rattle.std.specs.Prelude.{◌≡◌, ◌≢◌, ℕ, List, Some, None};
+ghost use Rattle.std.specs.Prelude.{◌≡◌, ◌≢◌, ℕ, List, Some, None, Ok, Err};
 ghost use Rattle.std.specs.FinMap as map;
+ghost use Rattle.j_definitions.specs.declared.Fault.TheVariants.{Nonce};
 ghost use Rattle.j_entity.specs.Tree.{EntityTree};
 ghost use Rattle.j_names.specs.Names.{NameMap, look, assign};
-ghost use Rattle.j_names.specs.Rows.{simple, f, g, fg, f_in_g, f_of_g, plus, five};
+ghost use Rattle.j_names.specs.Rows.{with, simple, f, g, fg, f_in_g, f_of_g, plus, five};
 
 /// Laws: names worked out by hand.
 pub fn worked_rows()
-    ensures empty { look map.empty f ≡ None }
-    ensures held { look (assign map.empty f plus) f ≡ Some plus }
-    ensures another { look (assign map.empty f plus) g ≡ None }
-    ensures longer { look (assign map.empty f plus) fg ≡ None }
-    ensures shorter { look (assign map.empty fg plus) f ≡ None }
-    ensures replaced { look (assign (assign map.empty f plus) f five) f ≡ Some five }
-    ensures left { look (assign (assign map.empty f plus) g five) f ≡ Some plus }
-    ensures in_locale { look (assign map.empty f plus) f_in_g ≡ None }
-    ensures of_object { look (assign map.empty f plus) f_of_g ≡ None }
-    ensures locale_given { look (assign map.empty f_in_g plus) f ≡ None }
-    ensures object_given { look (assign map.empty f_of_g plus) f ≡ None }
+    ensures empty { look map.empty f ≡ Ok None }
+    ensures held { look (with f plus map.empty) f ≡ Ok (Some plus) }
+    ensures another { look (with f plus map.empty) g ≡ Ok None }
+    ensures longer { look (with f plus map.empty) fg ≡ Ok None }
+    ensures shorter { look (with fg plus map.empty) f ≡ Ok None }
+    ensures replaced { look (with f five (with f plus map.empty)) f ≡ Ok (Some five) }
+    ensures left { look (with g five (with f plus map.empty)) f ≡ Ok (Some plus) }
+    ensures in_locale { look (with f plus map.empty) f_in_g ≡ Err Nonce }
+    ensures of_object { look (with f plus map.empty) f_of_g ≡ Err Nonce }
+    ensures given { assign map.empty f plus ≡ Ok (with f plus map.empty) }
+    ensures locale_given { assign map.empty f_in_g plus ≡ Err Nonce }
+    ensures object_given { assign map.empty f_of_g plus ≡ Err Nonce }
 {}
 
 /// Laws: a name holds what it was given last, and no other name changes.
 pub fn name_laws()
-    ensures held { (m : NameMap) (k : List ℕ) (e : EntityTree) → look (assign m (simple k) e) (simple k) ≡ Some e }
-    ensures others { (m : NameMap) (k l : List ℕ) (e : EntityTree) → l ≢ k → look (assign m (simple k) e) (simple l) ≡ look m (simple l) }
-    ensures last { (m : NameMap) (k : List ℕ) (d e : EntityTree) → assign (assign m (simple k) d) (simple k) e ≡ assign m (simple k) e }
+    ensures held { (m : NameMap) (k : List ℕ) (e : EntityTree) → look (with (simple k) e m) (simple k) ≡ Ok (Some e) }
+    ensures others { (m : NameMap) (k l : List ℕ) (e : EntityTree) → l ≢ k → look (with (simple k) e m) (simple l) ≡ look m (simple l) }
+    ensures last { (m : NameMap) (k : List ℕ) (d e : EntityTree) → with (simple k) e (with (simple k) d m) ≡ with (simple k) e m }
 {}

@@ -23,7 +23,10 @@ fn keeps_names(rt: HostRuntime) -> Result<(), Fail> {
     give(alloc, &mut names, b"f", Primitive::Plus)?;
     give(alloc, &mut names, b"g", Primitive::Minus)?;
     give(alloc, &mut names, b"f", Primitive::Times)?;
-    assert!(rt; names.get(&name(alloc, b"f")?).is_some());
-    assert!(rt; names.get(&name(alloc, b"h")?).is_none());
+    let held = names.get(&name(alloc, b"f")?).ok().ok_or("no answer")?;
+    assert!(rt; held.is_some());
+    let other = names.get(&name(alloc, b"h")?).ok().ok_or("no answer")?;
+    assert!(rt; other.is_none());
+    assert!(rt; names.get(&name(alloc, b"f_z_")?).is_err());
     Ok(())
 }

@@ -7,9 +7,6 @@ returns-clause-plus c = refl
 pub returns-clause-base : goal.returns-clause-base
 returns-clause-base c = refl
 
-pub returns-clause-passive : goal.returns-clause-passive
-returns-clause-passive c = refl
-
 pub returns-clause-two_numbers : goal.returns-clause-two_numbers
 returns-clause-two_numbers c = refl
 
@@ -25,29 +22,11 @@ returns-clause-four_numbers c = refl
 pub returns-clause-table : goal.returns-clause-table
 returns-clause-table c = refl
 
-pub returns-clause-of_a_verb : goal.returns-clause-of_a_verb
-returns-clause-of_a_verb c = refl
-
-pub returns-clause-product : goal.returns-clause-product
-returns-clause-product c = refl
-
 pub returns-clause-product_of_negative : goal.returns-clause-product_of_negative
 returns-clause-product_of_negative c = refl
 
 pub returns-clause-product_of_largest : goal.returns-clause-product_of_largest
 returns-clause-product_of_largest c = refl
-
-pub returns-clause-bond_of_verbs : goal.returns-clause-bond_of_verbs
-returns-clause-bond_of_verbs c = refl
-
-pub returns-clause-bond_with_noun : goal.returns-clause-bond_with_noun
-returns-clause-bond_with_noun c = refl
-
-pub returns-clause-cut : goal.returns-clause-cut
-returns-clause-cut c = refl
-
-pub returns-clause-monadic : goal.returns-clause-monadic
-returns-clause-monadic c = refl
 
 pub returns-clause-fork_of_words : goal.returns-clause-fork_of_words
 returns-clause-fork_of_words c = refl

@@ -7,6 +7,6 @@ use Rattle.j_names.proofs.names.append.Goals as goal
 pub returns-clause-ok : goal.returns-clause-ok
 returns-clause-ok c =
     elim c.match-push.branch [
-      | in-Ok w ↦ rw w.result-is (ap kept w.in-Ok.ensures.items ∙ kept_push c.args.rows.now.items c.args.row c.requires)
+      | in-Ok w ↦ rw w.result-is (λ none. ap kept w.in-Ok.ensures.items ∙ kept_push c.args.rows.now.items c.args.row none)
       | in-Err w ↦ rw w.result-is tt
     ]
