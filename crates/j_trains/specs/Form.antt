@@ -1,11 +1,11 @@
 -- What rows 3 to 6 of the parsing table form of entities that stand side by side.
-use Rattle.std.specs.Prelude.{ℕ, nat_le, Result, Ok, Err, if◌then◌else◌}
+use Rattle.std.specs.Prelude.{ℕ, nat_le, Option, Some, None, Result, Ok, Err, if◌then◌else◌}
 use Rattle.j_definitions.specs.declared.Fault.{Fault}
 use Rattle.j_definitions.specs.declared.Fault.TheVariants.{Domain, Limit, Nonce, Syntax}
 use Rattle.j_leaves.specs.declared.modifier.Modifier.{Modifier}
-use Rattle.j_leaves.specs.declared.modifier.Modifier.TheVariants.{At}
-use Rattle.j_entity.specs.Tree.{VerbTree, OperandTree, OperatorTree, EntityTree, fork, noun_fork, hook, derived2, verb, noun, rank_list, modifier, both, right, left, defined, a_noun, a_verb, an_adverb, a_conjunction}
+use Rattle.j_entity.specs.Tree.{VerbTree, OperandTree, OperatorTree, EntityTree, fork, noun_fork, hook, derived, derived2, verb, noun, rank_list, modifier, both, right, left, defined, a_noun, a_verb, an_adverb, a_conjunction}
 use Rattle.j_entity.specs.Heights.{verb_height, operator_height}
+use Rattle.j_trains.specs.Modifiers.{conjunction_fault, adverb_fault}
 
 -- the greatest height that may be formed
 abbrev pub most_height : ℕ
@@ -40,24 +40,26 @@ bident_of (a_noun n) (a_conjunction c) = formed_adverb (left (noun n) c)
 bident_of (a_verb v) (a_conjunction c) = formed_adverb (left (verb v) c)
 bident_of _ _ = Err Syntax
 
--- `u@:v`
-abbrev pub at_of : OperandTree → OperandTree → Result EntityTree Fault
-at_of (verb u) (verb v) = verb_entity (formed_verb (derived2 At (verb u) (verb v)))
-at_of _ _ = Err Domain
+-- a verb, unless its operands are at fault
+abbrev pub formed_unless : Option Fault → VerbTree → Result EntityTree Fault
+formed_unless None v = verb_entity (formed_verb v)
+formed_unless (Some e) v = Err e
 
--- a conjunction that is a word, between u and v: only `@:` is formed so far
+-- a conjunction that is a word, between u and v
 abbrev pub word_conjunction : Modifier → OperandTree → OperandTree → Result EntityTree Fault
-word_conjunction At u v = at_of u v
-word_conjunction _ u v = Err Nonce
+word_conjunction m u v = formed_unless (conjunction_fault m u v) (derived2 m u v)
 
--- row 4: `u c v`
+-- row 4: `u c v`. An adverb is no conjunction, and a body is run where it is formed
 abbrev pub conjunction_of : OperatorTree → OperandTree → OperandTree → Result EntityTree Fault
 conjunction_of (modifier m) u v = word_conjunction m u v
-conjunction_of _ u v = Err Nonce
+conjunction_of (both a b) u v = Err Nonce
+conjunction_of (right c w) u v = Err Nonce
+conjunction_of (left w c) u v = Err Nonce
+conjunction_of (defined b) u v = Err Nonce
 
--- an adverb that is a word, right of u: none is formed so far
+-- an adverb that is a word, right of u
 abbrev pub word_adverb : Modifier → OperandTree → Result EntityTree Fault
-word_adverb m u = Err Nonce
+word_adverb m u = formed_unless (adverb_fault m u) (derived m u)
 
 -- what an adverb gave, as the operand of the next one
 abbrev pub operand_again : EntityTree → Result OperandTree Fault

@@ -1,3 +1,4 @@
+pub mod Modifiers
 pub mod Form
-pub mod Formed
 pub mod Rows
+pub mod Tables

@@ -1,10 +1,13 @@
 -- The parts of trains worked out by hand, and what their laws speak of.
-use Rattle.std.specs.Prelude.{ℕ, zero, suc, pos}
-use Rattle.j_definitions.specs.Array.{Array, number, atom_array}
-use Rattle.j_definitions.specs.declared.Kind.TheVariants.{Number}
+use Rattle.std.specs.Prelude.{ℕ, zero, suc, ℤ, pos, List, [], ◌∷◌, length, map, Result, Ok}
+use Rattle.j_definitions.specs.Array.{Array, number, byte, boxed, atom_array}
+use Rattle.j_definitions.specs.declared.Fault.{Fault}
+use Rattle.j_definitions.specs.declared.Kind.{Kind}
+use Rattle.j_definitions.specs.declared.Kind.TheVariants.{Number, Character, Boxed}
 use Rattle.j_leaves.specs.declared.primitive.Primitive.TheVariants as p
+use Rattle.j_leaves.specs.declared.modifier.Modifier.{Modifier}
 use Rattle.j_leaves.specs.declared.modifier.Modifier.TheVariants as m
-use Rattle.j_entity.specs.Tree.{VerbTree, OperatorTree, EntityTree, primitive, hook, modifier, both, a_noun, a_verb, an_adverb, a_conjunction}
+use Rattle.j_entity.specs.Tree.{VerbTree, OperandTree, OperatorTree, EntityTree, primitive, hook, derived, derived2, noun, modifier, both, a_noun, a_verb, an_adverb, a_conjunction}
 use Rattle.j_entity.specs.Heights.{verb_height, operator_height}
 
 abbrev pub plus : VerbTree
@@ -18,6 +21,43 @@ times = primitive p.Times
 
 abbrev pub five : Array
 five = atom_array Number (number (pos 5))
+
+-- operands
+abbrev pub on_five : OperandTree
+on_five = noun five
+
+abbrev pub atom : ℤ → OperandTree
+atom n = noun (atom_array Number (number n))
+
+-- a noun of numbers in this shape
+abbrev pub shaped : List ℕ → List ℤ → OperandTree
+shaped s ns = noun (record { kind = Number; shape = s; atoms = map number ns })
+
+-- the list of these numbers
+abbrev pub numbers : List ℤ → OperandTree
+numbers ns = shaped (length ns ∷ []) ns
+
+-- a noun without atoms
+abbrev pub nothing : Kind → List ℕ → OperandTree
+nothing k s = noun (record { kind = k; shape = s; atoms = [] })
+
+-- `'a'`, and the noun of that byte in this shape
+abbrev pub letter : OperandTree
+letter = noun (atom_array Character (byte 97))
+
+abbrev pub letter_shaped : List ℕ → OperandTree
+letter_shaped s = noun (record { kind = Character; shape = s; atoms = byte 97 ∷ [] })
+
+-- `<5`
+abbrev pub box : OperandTree
+box = noun (atom_array Boxed (boxed five))
+
+-- the verb that a modifier forms of one operand, and of two
+abbrev pub alone : Modifier → OperandTree → Result EntityTree Fault
+alone m u = Ok (a_verb (derived m u))
+
+abbrev pub joined : Modifier → OperandTree → OperandTree → Result EntityTree Fault
+joined m u v = Ok (a_verb (derived2 m u v))
 
 abbrev pub at_word : OperatorTree
 at_word = modifier m.At

@@ -40,18 +40,6 @@ returns-clause-verb_and_adverb c = refl
 pub returns-clause-two_conjunctions : goal.returns-clause-two_conjunctions
 returns-clause-two_conjunctions c = refl
 
-pub returns-clause-at : goal.returns-clause-at
-returns-clause-at c = refl
-
-pub returns-clause-noun_left_of_at : goal.returns-clause-noun_left_of_at
-returns-clause-noun_left_of_at c = refl
-
-pub returns-clause-noun_right_of_at : goal.returns-clause-noun_right_of_at
-returns-clause-noun_right_of_at c = refl
-
-pub returns-clause-atop : goal.returns-clause-atop
-returns-clause-atop c = refl
-
 pub returns-clause-right_applied : goal.returns-clause-right_applied
 returns-clause-right_applied c = refl
 
@@ -60,9 +48,6 @@ returns-clause-left_applied c = refl
 
 pub returns-clause-left_first : goal.returns-clause-left_first
 returns-clause-left_first c = refl
-
-pub returns-clause-insert : goal.returns-clause-insert
-returns-clause-insert c = refl
 
 pub returns-clause-highest : goal.returns-clause-highest
 returns-clause-highest c = refl
@@ -75,6 +60,3 @@ returns-clause-highest_adverb c = refl
 
 pub returns-clause-adverb_too_high : goal.returns-clause-adverb_too_high
 returns-clause-adverb_too_high c = refl
-
-pub returns-clause-derived_too_high : goal.returns-clause-derived_too_high
-returns-clause-derived_too_high c = refl
