@@ -1,0 +1,5 @@
+use Rattle.j_loops.specs.Results.{AreResults}
+use Rattle.j_loops.proofs.loops.fill_exact.Given as goal
+
+abbrev pub invariant-loop-k : goal.invariant-loop-k
+invariant-loop-k g l = AreResults g.O.Op.left_atom g.O.Op.right_atom g.Z.Stored.atom g.Z.Stored.IsKept g.O.Op.meaning l.left l.right l.x l.y l.out l.k
