@@ -1,4 +1,8 @@
-pub mod Masks
-pub mod Filling
-pub mod Frames
-pub mod Answers
+pub mod Storage
+pub mod Framing
+pub mod Gcd
+pub mod ResidueLaws
+pub mod Checked
+pub mod PowerLaws
+pub mod MultipleLaws
+pub mod BitLaws
