@@ -1,8 +1,10 @@
 pub mod Products
 pub mod Parts
 pub mod Made
+pub mod Joining
 pub mod Widest
 pub mod Paddings
 pub mod Assembled
 pub mod Placing
 pub mod Single
+pub mod Bits

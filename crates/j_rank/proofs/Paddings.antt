@@ -1,17 +1,21 @@
 -- Atoms that are padded.
-use Rattle.std.proofs.Common.{◌≡◌, ◌<◌, ◌≤◌, ◌+◌, ◌-◌, ◌*◌, ◌/◌, ℕ, ℤ, pos, map, List, [], ◌∷◌, ◌++◌, length, take, drop, replicate, get_or, arith, refl, sym, ap, ◌∙◌, zero-mul, Result, Ok, Err, OnOk}
+use Rattle.std.proofs.Common.{◌≡◌, ◌<◌, ◌≤◌, ◌+◌, ◌-◌, ◌*◌, ◌/◌, ℕ, map, List, [], ◌∷◌, ◌++◌, length, take, drop, replicate, get_or, arith, refl, sym, ap, ◌∙◌, zero-mul, Result, Ok, Err, OnOk}
 use Prim.Native.Nat.{zero, suc}
 use Rattle.std.specs.List.{All, flat_map, range_with_len}
-use Rattle.std.proofs.lemmas.List.{take_all, take-append-drop, drop-drop, length-take, length-drop, length-append, length-replicate, append-nil, drop-take, take-take, take-map, drop-map, length-map, map-append, append_assoc, drop_more, take_rest}
+use Rattle.std.proofs.lemmas.List.{take_all, take-append-drop, drop-drop, length-take, length-drop, length-append, length-replicate, append-nil, drop-take, take-take, take-map, drop-map, map-append, append_assoc, drop_more, take_rest}
 use Rattle.std.proofs.lemmas.List.Concat.{flat_map-append}
 use Rattle.std.proofs.lemmas.List.Elements.{All-head, All-tail}
 use Rattle.std.proofs.Math.Nat.{mul-le-mul_left, mul_comm, mul-div_cancel_left}
-use Rattle.j_definitions.specs.Array.{Array, Atom, number, product, IsNoun}
+use Rattle.j_definitions.specs.Array.{Array, Atom, product, fill_atom, IsNoun}
 use Rattle.j_definitions.specs.declared.Kind.{Kind}
-use Rattle.j_rank.specs.Cells.{fill_atom}
-use Rattle.j_rank.specs.Assembly.{with_rank, part, padded, atoms_of_all}
+use Rattle.j_rank.specs.Assembly.{with_rank, padded, atoms_of_all}
 use Rattle.j_rank.specs.Places.{IsUnder}
 use Rattle.j_rank.proofs.Widest.{product-with_rank}
+use Rattle.j_rank.proofs.Made.{fills_map}
+
+-- part k of a list
+abbrev pub part : {X : Type 0} → ℕ → List X → ℕ → List X
+part size xs k = take size (drop (k * size) xs)
 
 range_more : (a n : ℕ) → range_with_len a (n + 1) ≡ range_with_len a n ++ (a + n) ∷ []
 range_more a zero = let e : a ≡ a + 0 = omega arith in ap (λ k. k ∷ []) e
@@ -42,7 +46,7 @@ split_at xs m n =
     ∙ take-append-drop m (take (m + n) xs)
 
 -- the parts of a list make it
-parts_joined : (size : ℕ) (xs : List Atom) (a n : ℕ) → flat_map (part size xs) (range_with_len a n) ≡ take (n * size) (drop (a * size) xs)
+parts_joined : {X : Type 0} (size : ℕ) (xs : List X) (a n : ℕ) → flat_map (part size xs) (range_with_len a n) ≡ take (n * size) (drop (a * size) xs)
 parts_joined size xs a zero = let none : 0 ≡ 0 * size = omega arith in ap (λ k. take k (drop (a * size) xs)) none
 parts_joined size xs a (suc n) =
     let next : (a + 1) * size ≡ a * size + size = omega arith in
@@ -59,19 +63,19 @@ part_many xs m size k e h =
 filled_up : (m n p a b c : ℕ) → m ≤ n → a ≡ m * p → b ≡ (n - m) * p → c ≡ a + b → c ≡ n * p
 filled_up m n p a b c h ea eb ec = let all : m + (n - m) ≡ n = omega arith in omega (arith, ap (λ k. k * p) all)
 
-pub length-padded : (z : Atom) (t s : List ℕ) (xs : List Atom) → IsUnder t s → length xs ≡ product t → length (padded z t s xs) ≡ product s
+pub length-padded : {X : Type 0} (z : X) (t s : List ℕ) (xs : List X) → IsUnder t s → length xs ≡ product t → length (padded z t s xs) ≡ product s
 length-padded z [] [] xs u e = e
 length-padded z [] (n ∷ s) xs u e = absurd u
 length-padded z (m ∷ t) [] xs u e = absurd u
 length-padded z (m ∷ t) (n ∷ s) xs u e =
-    let piece : ℕ → List Atom = λ k. padded z t s (part (product t) xs k) in
+    let piece : ℕ → List _ = λ k. padded z t s (part (product t) xs k) in
     let fills = replicate ((n - m) * product s) z in
     let pieces = pieces_many piece (product s) 0 m (λ k h. length-padded z t s (part (product t) xs k) u.1 (part_many xs m (product t) k e (omega arith))) in
     filled_up m n (product s) (length (flat_map piece (range_with_len 0 m))) (length fills) (length (flat_map piece (range_with_len 0 m) ++ fills)) u.0 pieces
     (length-replicate ((n - m) * product s) z) (length-append (flat_map piece (range_with_len 0 m)) fills)
 
 -- nothing is padded where the shapes are equal
-pub padded_same : (z : Atom) (s : List ℕ) (xs : List Atom) → length xs ≡ product s → padded z s s xs ≡ xs
+pub padded_same : {X : Type 0} (z : X) (s : List ℕ) (xs : List X) → length xs ≡ product s → padded z s s xs ≡ xs
 padded_same z [] xs e = refl
 padded_same z (n ∷ s) xs e =
     let items = same_pieces (λ k. padded z s s (part (product s) xs k)) (part (product s) xs) 0 n (λ k h. padded_same z s (part (product s) xs k) (part_many xs n (product s) k e (omega arith))) in
@@ -123,51 +127,63 @@ head_some s size h e some = factor_left (head s) (product (rest s)) size (e ∙ 
 pub rest_positive : (s : List ℕ) (size : ℕ) → 1 ≤ length s → size ≡ product s → 0 < size → 0 < product (rest s)
 rest_positive s size h e some = factor_left (product (rest s)) (head s) size (e ∙ product_head s h ∙ mul_comm (head s) (product (rest s))) some
 
--- the numbers of item k
-pub item_many : (s : List ℕ) (vs run : List ℤ) (k : ℕ) → 1 ≤ length s → length vs ≡ product s → k < head s → run ≡ take (length vs / head s) (drop (k * (length vs / head s)) vs) →
+-- the elements of item k
+pub item_many : {X : Type 0} (s : List ℕ) (xs run : List X) (k : ℕ) → 1 ≤ length s → length xs ≡ product s → k < head s → run ≡ take (length xs / head s) (drop (k * (length xs / head s)) xs) →
     length run ≡ product (rest s)
-item_many s vs run k h e g is =
-    let size = item_size_is s (length vs) h e (omega arith) in
-    ap length (is ∙ ap (λ q. take q (drop (k * q) vs)) size) ∙ part_many vs (head s) (product (rest s)) k (e ∙ product_head s h) g
-
-run_part : (vs run : List ℤ) (k q size : ℕ) → q ≡ size → run ≡ take q (drop (k * q) vs) → map number run ≡ part size (map number vs) k
-run_part vs run k q size e is =
-    ap (map number) (is ∙ ap (λ n. take n (drop (k * n) vs)) e) ∙ sym (ap (take size) (drop-map number (k * size) vs) ∙ take-map number size (drop (k * size) vs))
+item_many s xs run k h e g is =
+    let size = item_size_is s (length xs) h e (omega arith) in
+    ap length (is ∙ ap (λ q. take q (drop (k * q) xs)) size) ∙ part_many xs (head s) (product (rest s)) k (e ∙ product_head s h) g
 
 -- items that are padded so far
-abbrev pub items_padded : List ℕ → List ℕ → List ℤ → ℕ → List Atom
-items_padded t s vs k = flat_map (λ j. padded (number (pos 0)) t s (part (product t) (map number vs) j)) (range_with_len 0 k)
+abbrev pub items_padded : {X : Type 0} → X → List ℕ → List ℕ → List X → ℕ → List X
+items_padded z t s xs k = flat_map (λ j. padded z t s (part (product t) xs j)) (range_with_len 0 k)
 
-pub items_more : (t s : List ℕ) (vs run out mid new : List ℤ) (k q : ℕ) → q ≡ product t → run ≡ take q (drop (k * q) vs) → map number mid ≡ map number out ++ items_padded t s vs k →
-    map number new ≡ map number mid ++ padded (number (pos 0)) t s (map number run) → map number new ≡ map number out ++ items_padded t s vs (k + 1)
-items_more t s vs run out mid new k q e is before more =
-    more ∙ ap (λ r. r ++ padded (number (pos 0)) t s (map number run)) before
-    ∙ ap (λ r. (map number out ++ items_padded t s vs k) ++ padded (number (pos 0)) t s r) (run_part vs run k q (product t) e is)
-    ∙ append_assoc (map number out) (items_padded t s vs k) (padded (number (pos 0)) t s (part (product t) (map number vs) k))
-    ∙ ap (λ r. map number out ++ r) (sym (pieces_more (λ j. padded (number (pos 0)) t s (part (product t) (map number vs) j)) k))
-
-fills_map : (n : ℕ) → map number (replicate n (pos 0)) ≡ replicate n (number (pos 0))
-fills_map zero = refl
-fills_map (suc n) = ap (λ r. number (pos 0) ∷ r) (fills_map n)
+pub items_more : {X : Type 0} (z : X) (t s : List ℕ) (xs run out mid new : List X) (k q : ℕ) → q ≡ product t → run ≡ take q (drop (k * q) xs) → mid ≡ out ++ items_padded z t s xs k →
+    new ≡ mid ++ padded z t s run → new ≡ out ++ items_padded z t s xs (k + 1)
+items_more z t s xs run out mid new k q e is before more =
+    more ∙ ap (λ r. r ++ padded z t s run) before
+    ∙ ap (λ r. (out ++ items_padded z t s xs k) ++ padded z t s r) (is ∙ ap (λ n. take n (drop (k * n) xs)) e)
+    ∙ append_assoc out (items_padded z t s xs k) (padded z t s (part (product t) xs k))
+    ∙ ap (λ r. out ++ r) (sym (pieces_more (λ j. padded z t s (part (product t) xs j)) k))
 
 -- all items, and the fills behind them
-pub all_padded : (from to : List ℕ) (vs out mid new : List ℤ) (k count : ℕ) → 1 ≤ length from → 1 ≤ length to → k ≡ head from → count ≡ (head to - head from) * product (rest to) →
-    map number mid ≡ map number out ++ items_padded (rest from) (rest to) vs k → new ≡ mid ++ replicate count (pos 0) → map number new ≡ map number out ++ padded (number (pos 0)) from to (map number vs)
-all_padded from to vs out mid new k count f g ek ec before more =
-    let fills : List Atom = replicate ((head to - head from) * product (rest to)) (number (pos 0)) in
-    let all : items_padded (rest from) (rest to) vs k ++ fills ≡ padded (number (pos 0)) from to (map number vs) =
-    ap (λ j. items_padded (rest from) (rest to) vs j ++ fills) ek
-    ∙ sym (ap (λ s. padded (number (pos 0)) s to (map number vs)) (head_rest from f) ∙ ap (λ s. padded (number (pos 0)) (head from ∷ rest from) s (map number vs)) (head_rest to g)) in
-    ap (map number) more ∙ map-append number mid (replicate count (pos 0)) ∙ ap (λ r. r ++ map number (replicate count (pos 0))) before
-    ∙ ap (λ r. (map number out ++ items_padded (rest from) (rest to) vs k) ++ r) (fills_map count ∙ ap (λ j. replicate j (number (pos 0))) ec)
-    ∙ append_assoc (map number out) (items_padded (rest from) (rest to) vs k) fills ∙ ap (λ r. map number out ++ r) all
+pub all_padded : {X : Type 0} (z : X) (from to : List ℕ) (xs out mid new : List X) (k count : ℕ) → 1 ≤ length from → 1 ≤ length to → k ≡ head from → count ≡ (head to - head from) * product (rest to) →
+    mid ≡ out ++ items_padded z (rest from) (rest to) xs k → new ≡ mid ++ replicate count z → new ≡ out ++ padded z from to xs
+all_padded z from to xs out mid new k count f g ek ec before more =
+    let fills = replicate ((head to - head from) * product (rest to)) z in
+    let all : items_padded z (rest from) (rest to) xs k ++ fills ≡ padded z from to xs =
+    ap (λ j. items_padded z (rest from) (rest to) xs j ++ fills) ek
+    ∙ sym (ap (λ s. padded z s to xs) (head_rest from f) ∙ ap (λ s. padded z (head from ∷ rest from) s xs) (head_rest to g)) in
+    more ∙ ap (λ r. r ++ replicate count z) before ∙ ap (λ j. (out ++ items_padded z (rest from) (rest to) xs k) ++ replicate j z) ec
+    ∙ append_assoc out (items_padded z (rest from) (rest to) xs k) fills ∙ ap (λ r. out ++ r) all
 
 -- nothing to be padded
-pub none_padded : (from to : List ℕ) (xs : List Atom) (vs out new : List ℤ) → from ≡ to → map number vs ≡ xs → length vs ≡ product from → new ≡ out ++ vs →
-    map number new ≡ map number out ++ padded (number (pos 0)) from to xs
-none_padded from to xs vs out new e ex many more =
-    let all : padded (number (pos 0)) from to xs ≡ xs = ap (λ s. padded (number (pos 0)) s to xs) e ∙ padded_same (number (pos 0)) to xs (ap length (sym ex) ∙ length-map vs number ∙ many ∙ ap product e) in
-    ap (map number) more ∙ map-append number out vs ∙ ap (λ r. map number out ++ r) (ex ∙ sym all)
+pub none_padded : {X : Type 0} (z : X) (from to : List ℕ) (xs out new : List X) → from ≡ to → length xs ≡ product from → new ≡ out ++ xs → new ≡ out ++ padded z from to xs
+none_padded z from to xs out new e many more =
+    more ∙ ap (λ r. out ++ r) (sym (ap (λ s. padded z s to xs) e ∙ padded_same z to xs (many ∙ ap product e)))
+
+-- padding what atoms are made of
+map-flat_map : {X Y : Type 0} (f : X → Y) (g : ℕ → List X) (ks : List ℕ) → map f (flat_map g ks) ≡ flat_map (λ k. map f (g k)) ks
+map-flat_map f g [] = refl
+map-flat_map f g (k ∷ ks) = map-append f (g k) (flat_map g ks) ∙ ap (λ r. map f (g k) ++ r) (map-flat_map f g ks)
+
+pub map-padded : {X Y : Type 0} (f : X → Y) (z : X) (t s : List ℕ) (xs : List X) → map f (padded z t s xs) ≡ padded (f z) t s (map f xs)
+map-padded f z [] s xs = refl
+map-padded f z (m ∷ t) [] xs = refl
+map-padded f z (m ∷ t) (n ∷ s) xs =
+    let piece : ℕ → List _ = λ k. padded z t s (part (product t) xs k) in
+    let each : (k : ℕ) → k < 0 + m → map f (piece k) ≡ padded (f z) t s (part (product t) (map f xs) k) =
+    λ k h. map-padded f z t s (part (product t) xs k) ∙ ap (padded (f z) t s) (sym (ap (take (product t)) (drop-map f (k * product t) xs) ∙ take-map f (product t) (drop (k * product t) xs))) in
+    map-append f (flat_map piece (range_with_len 0 m)) (replicate ((n - m) * product s) z)
+    ∙ ap (λ r. r ++ map f (replicate ((n - m) * product s) z)) (map-flat_map f piece (range_with_len 0 m) ∙ same_pieces (λ k. map f (piece k)) (λ k. padded (f z) t s (part (product t) (map f xs) k)) 0 m each)
+    ∙ ap (λ r. flat_map (λ k. padded (f z) t s (part (product t) (map f xs) k)) (range_with_len 0 m) ++ r) (fills_map f z ((n - m) * product s))
+
+-- the atoms of what was appended
+pub appended : {X : Type 0} (f : X → Atom) (z : X) (n : ℕ) (axes shape to : List ℕ) (run out new : List X) (xs : List Atom) → axes ≡ shape → map f run ≡ xs →
+    new ≡ out ++ padded z (with_rank n axes) to run → map f new ≡ map f out ++ padded (f z) (with_rank n shape) to xs
+appended f z n axes shape to run out new xs same e more =
+    ap (map f) more ∙ map-append f out (padded z (with_rank n axes) to run)
+    ∙ ap (λ r. map f out ++ r) (map-padded f z (with_rank n axes) to run ∙ ap (padded (f z) (with_rank n axes) to) e ∙ ap (λ s. padded (f z) (with_rank n s) to xs) same)
 
 pub on_ok : {T E : Type 0} (r : Result T E) (P Q : Type 0) → (P → Q) → OnOk r P → OnOk r Q
 on_ok (Ok x) P Q f h = f h

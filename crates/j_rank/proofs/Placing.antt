@@ -6,9 +6,10 @@ use Rattle.std.proofs.lemmas.Bool.{ltb-true, lt-ltb, le-ltb, cases_lt}
 use Rattle.std.proofs.lemmas.List.{get_or_append_left, get_or-append_right, get_or-append-add, get_or-take, get_or-drop}
 use Rattle.std.proofs.Math.Nat.{mul-le-mul_left, mul_comm}
 use Rattle.j_definitions.specs.Array.{Atom, product}
-use Rattle.j_rank.specs.Assembly.{part, padded}
+use Rattle.j_definitions.specs.Items.{part}
+use Rattle.j_rank.specs.Assembly.{padded}
 use Rattle.j_rank.specs.Places.{IsUnder, is_inside, place, atom_in}
-use Rattle.j_rank.proofs.Made.{true_left, true_right}
+use Rattle.j_definitions.proofs.Limits.{true_left, true_right}
 use Rattle.j_rank.proofs.Paddings.{part_many, pieces_many, length-padded}
 
 -- row i of rows of one length

@@ -2,11 +2,11 @@
 use Rattle.std.proofs.Common.{◌≡◌, ◌*◌, ℕ, max, true, false, nat_eq, cond, List, [], ◌∷◌, ◌++◌, length, take, drop, replicate, arith, refl, ap, ◌∙◌, append-nil, Some, Ok}
 use Prim.Native.Nat.{zero, suc}
 use Rattle.std.proofs.lemmas.List.{take_all}
-use Rattle.j_definitions.specs.Array.{Array, Atom, product, IsNoun}
-use Rattle.j_rank.specs.Answers.{limited}
+use Rattle.j_definitions.specs.Array.{Array, Atom, product, fill_atom, IsNoun}
+use Rattle.j_definitions.specs.Limits.{limited}
 use Rattle.j_rank.specs.Assembly.{with_rank, greater_axes, common_shape, padded, one_kind, joined_kind, assembled, assembled_as, assemble}
-use Rattle.j_rank.specs.Cells.{cell, fill_atom}
-use Rattle.j_rank.proofs.Made.{limited-Ok}
+use Rattle.j_rank.specs.Cells.{cell}
+use Rattle.j_definitions.proofs.Limits.{limited-Ok}
 use Rattle.j_rank.proofs.Paddings.{padded_same}
 use Rattle.j_rank.proofs.Widest.{with_rank_same}
 

@@ -1,13 +1,12 @@
 -- How the results of cells become one noun.
 use Rattle.std.specs.Prelude.{ℕ, ◌-◌, ◌*◌, max, Bool, true, false, nat_eq, cond, List, [], ◌∷◌, ◌++◌, length, take, drop, replicate, Option, Some, None, Result, Err}
 use Rattle.std.specs.List.{fold, flat_map, list_all, range_with_len}
-use Rattle.j_definitions.specs.Array.{Array, Atom, product}
+use Rattle.j_definitions.specs.Array.{Array, Atom, product, fill_atom}
 use Rattle.j_definitions.specs.declared.Kind.{Kind}
 use Rattle.j_definitions.specs.declared.Kind.TheVariants.{Number, Character, Boxed}
 use Rattle.j_definitions.specs.declared.Fault.{Fault}
 use Rattle.j_definitions.specs.declared.Fault.TheVariants.{Domain}
-use Rattle.j_rank.specs.Cells.{fill_atom}
-use Rattle.j_rank.specs.Answers.{limited}
+use Rattle.j_definitions.specs.Limits.{limited}
 
 -- brought to n axes by leading axes of length 1
 abbrev pub with_rank : ℕ → List ℕ → List ℕ
@@ -29,13 +28,9 @@ greatest_axes n results = fold (λ s a. greater_axes s (with_rank n a.shape)) (r
 abbrev pub common_shape : List Array → List ℕ
 common_shape results = greatest_axes (greatest_rank results) results
 
--- part k of atoms, where each part has that many
-abbrev pub part : ℕ → List Atom → ℕ → List Atom
-part size xs k = take size (drop (k * size) xs)
-
--- atoms of shape t, brought to shape s: each item is, and items of fills follow
-abbrev pub padded : Atom → List ℕ → List ℕ → List Atom → List Atom
-padded z (m ∷ t) (n ∷ s) xs = flat_map (λ k. padded z t s (part (product t) xs k)) (range_with_len 0 m) ++ replicate ((n - m) * product s) z
+-- the elements of shape t, brought to shape s: each item is, and items of fills follow
+abbrev pub padded : {X : Type 0} → X → List ℕ → List ℕ → List X → List X
+padded z (m ∷ t) (n ∷ s) xs = flat_map (λ k. padded z t s (take (product t) (drop (k * product t) xs))) (range_with_len 0 m) ++ replicate ((n - m) * product s) z
 padded z _ _ xs = xs
 
 -- the atoms of results that are brought to shape s

@@ -1,8 +1,7 @@
 -- The cells of a noun: which axes are their frame, and what each cell is.
-use Rattle.std.specs.Prelude.{ℕ, ◌+◌, ◌-◌, ◌*◌, pos, negsuc, min, List, [], ◌∷◌, length, take, drop, replicate}
-use Rattle.j_definitions.specs.Array.{Array, Atom, number, byte, boxed, product}
-use Rattle.j_definitions.specs.declared.Kind.{Kind}
-use Rattle.j_definitions.specs.declared.Kind.TheVariants.{Number as NumberKind, Character, Boxed}
+use Rattle.std.specs.Prelude.{ℕ, ◌+◌, ◌-◌, pos, negsuc, min, List, length, take, drop, replicate}
+use Rattle.j_definitions.specs.Array.{Array, product, fill_atom}
+use Rattle.j_definitions.specs.Items.{part}
 use Rattle.j_noun.specs.declared.ranks.Rank.{Rank}
 use Rattle.j_noun.specs.declared.ranks.Rank.TheVariants.{Number, Infinite}
 
@@ -21,13 +20,7 @@ cell_size n s = product (drop n s)
 
 -- cell k, where n axes are the frame: the kind, the last axes, and the atoms of its place in order
 abbrev pub cell : ℕ → Array → ℕ → Array
-cell n a k = record { kind = a.kind; shape = drop n a.shape; atoms = take (cell_size n a.shape) (drop (k * cell_size n a.shape) a.atoms) }
-
--- what fills a noun of each kind: 0, a blank, and a box with an empty list of numbers
-abbrev pub fill_atom : Kind → Atom
-fill_atom NumberKind = number (pos 0)
-fill_atom Character = byte 32
-fill_atom Boxed = boxed (record { kind = NumberKind; shape = 0 ∷ []; atoms = [] })
+cell n a k = record { kind = a.kind; shape = drop n a.shape; atoms = part (cell_size n a.shape) a.atoms k }
 
 -- the cell of fills
 abbrev pub cell_of_fills : ℕ → Array → Array

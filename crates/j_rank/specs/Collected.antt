@@ -1,5 +1,7 @@
 -- Results that are collected.
-use Rattle.std.specs.Prelude.{ℕ, List, refl}
+use Rattle.std.specs.Prelude.{ℕ, List, [], Option, Some, None, refl}
+use Rattle.std.specs.declared.alloc.Global.{Global}
+use Rattle.std.specs.declared.vec.Vec.{Vec}
 use Rattle.std.specs.Coded.{Coded, code_by, coded×, coded_ℕ, coded_list}
 use Rattle.j_definitions.specs.Array.{Array}
 use Rattle.j_definitions.specs.Stored.{array_code}
@@ -8,6 +10,11 @@ use Rattle.j_definitions.specs.Stored.{array_code}
 pub record Collected : Type 0 where
   pub frame : List ℕ
   pub results : List Array
+
+-- the results in a buffer, of which there is none before the first
+abbrev pub results_kept : Option (Vec Array Global) → List Array
+results_kept (Some v) = v.items
+results_kept None = []
 
 abbrev pub collected_code : Coded Collected
 collected_code =

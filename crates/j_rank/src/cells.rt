@@ -1,25 +1,15 @@
 // The frame of a noun, and its cells.
-ghost use Rattle.std.specs.Prelude.{◌≡◌, ◌<◌, ◌≤◌, ◌+◌, ◌*◌, [], length, map, take, drop, IfOk, IsOk};
-ghost use Rattle.j_definitions.specs.Array.{number, product, IsNoun};
-ghost use Rattle.j_definitions.specs.declared.Kind.TheVariants.{Number as NumberKind};
+ghost use Rattle.std.specs.Prelude.{◌≡◌, ◌<◌, ◌≤◌, length, take, IfOk, IsOk};
+ghost use Rattle.j_definitions.specs.Array.{product};
+ghost use Rattle.j_definitions.specs.Limits.{limited};
+ghost use Rattle.j_noun.specs.Held.{IsInline};
+ghost use Rattle.j_noun.specs.Refused.{OrWanting};
 ghost use Rattle.j_rank.specs.Cells.{frame_axes, frame_of, cell, cell_of_fills};
-ghost use Rattle.j_rank.specs.Answers.{limited, IsAnswer};
 
+use crate::atoms::{atom_of, atoms_of_part, fills};
 use crate::sizes::{shape_of, size_within};
-use j_definitions::Fault;
-use j_noun::{Atoms, NoMemory, Noun, Rank, Refusal, View};
-use std::alloc::Global;
+use j_noun::{Fault, NoMemory, Noun, Pool, Rank, Refusal};
 use std::cmp;
-
-/// The atoms in order.
-pub fn numbers(y: &Noun) -> &[i64]
-    ensures atoms { map number result.now ≡ y.now.atoms }
-    ensures kind { y.now.kind ≡ NumberKind }
-    ensures noun { IsNoun y.now }
-{
-    let View::Wholes(numbers) = y.view();
-    numbers
-}
 
 /// How many of n axes are the frame.
 pub fn frame_axes(rank: Rank, n: usize) -> usize
@@ -40,69 +30,45 @@ pub fn frame_of(rank: Rank, y: &Noun) -> &[usize]
     ensures within { length result.now ≤ length y.now.shape }
     ensures few { length result.now ≤ 32 }
 {
-    let _ = numbers(y);
     let axes = y.axes();
     &axes[..frame_axes(rank, axes.len())]
 }
 
-/// The noun of numbers in a shape.
-fn noun_of(alloc: Global, axes: &[usize], numbers: &[i64]) -> Result<Noun, Refusal>
-    requires rank { length axes.now ≤ 32 }
-    requires many { length numbers.now ≡ product axes.now }
-    ensures ok { IfOk result (λ n. n ≡ record { kind = NumberKind; shape = axes.now; atoms = map number numbers.now }) }
-{
-    let Ok(copied) = numbers.to_vec(alloc) else {
-        return Err(Refusal::NoMemory);
-    };
-    Noun::make(alloc, shape_of(axes), Atoms::Wholes(copied))
-}
-
-/// The atoms of cell k, where each cell has that many.
-pub fn run_of(numbers: &[i64], k: usize, size: usize) -> &[i64]
-    requires { (k + 1) * size ≤ length numbers.now }
-    ensures { result.now ≡ take size (drop (k * size) numbers.now) }
-{
-    let start = k * size;
-    &numbers[start..start + size]
-}
-
-/// Cell k, where n axes are the frame. An atom takes no memory, and the whole noun shares its buffer.
-pub fn cell_of(alloc: Global, y: &Noun, n: usize, k: usize) -> Result<Noun, NoMemory>
+/// Cell k, where n axes are the frame. The whole noun shares its buffer, and an atom that isn't boxed takes no memory.
+pub fn cell_of(pool: &mut Pool, y: &Noun, n: usize, k: usize) -> Result<Noun, NoMemory>
     requires axes { n ≤ length y.now.shape }
     requires place { k < product (take n y.now.shape) }
     ensures ok { IfOk result (λ a. a ≡ cell n y.now k) }
-    ensures atom { drop n y.now.shape ≡ [] → IsOk result }
+    ensures atom { IsInline (cell n y.now k) → IsOk result }
 {
-    let numbers = numbers(y);
-    let axes = y.axes();
-    if n == axes.len() {
-        return Ok(Noun::number(numbers[k]));
-    }
     if n == 0 {
         return y.duplicate();
+    }
+    let atoms = y.view();
+    let axes = y.axes();
+    if n == axes.len() {
+        return atom_of(pool, y, k);
     }
     let own = &axes[n..];
     let Some(size) = size_within(own) else {
         return Err(NoMemory);
     };
-    match noun_of(alloc, own, run_of(numbers, k, size)) {
+    let taken = atoms_of_part(pool, atoms, k, size)?;
+    match Noun::make(pool, shape_of(own), taken) {
         Ok(cell) => Ok(cell),
         Err(_) => Err(NoMemory),
     }
 }
 
 /// The cell of fills, where n axes are the frame.
-pub fn fills_of(alloc: Global, y: &Noun, n: usize) -> Result<Noun, Refusal>
+pub fn fills_of(pool: &mut Pool, y: &Noun, n: usize) -> Result<Noun, Refusal>
     requires { n ≤ length y.now.shape }
-    ensures { IsAnswer (limited (cell_of_fills n y.now)) result }
+    ensures { OrWanting (limited (cell_of_fills n y.now)) result }
 {
-    let _ = numbers(y);
     let own = &y.axes()[n..];
     let Some(size) = size_within(own) else {
         return Err(Refusal::Fault(Fault::Limit));
     };
-    let Ok(zeros) = Vec::from_elem(alloc, 0, size) else {
-        return Err(Refusal::NoMemory);
-    };
-    Noun::make(alloc, shape_of(own), Atoms::Wholes(zeros))
+    let atoms = fills(pool, y.kind(), size)?;
+    Noun::make(pool, shape_of(own), atoms)
 }

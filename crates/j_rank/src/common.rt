@@ -2,10 +2,8 @@
 ghost use Rattle.std.specs.Prelude.{◌≡◌, ◌≤◌, length};
 ghost use Rattle.std.specs.List.{All};
 ghost use Rattle.j_definitions.specs.Array.{IsNoun};
-ghost use Rattle.j_definitions.specs.declared.Kind.TheVariants.{Number as NumberKind};
 ghost use Rattle.j_rank.specs.Assembly.{with_rank, greatest_rank, greater_axes, common_shape};
 
-use crate::cells::numbers;
 use crate::sizes::{extended, shape_of};
 use j_noun::{Noun, Shape};
 use std::cmp;
@@ -15,11 +13,10 @@ fn greatest_rank(results: &[Noun]) -> usize
     ensures value { result ≡ greatest_rank results.now }
     ensures few { result ≤ 32 }
     ensures nouns { All IsNoun results.now }
-    ensures kinds { All (λ a. a.kind ≡ NumberKind) results.now }
 {
     let mut rank = 0;
     for r in results {
-        let _ = numbers(r);
+        let _ = r.view();
         rank = cmp::max(rank, r.axes().len());
     }
     rank
@@ -43,7 +40,6 @@ pub fn common_shape(results: &[Noun]) -> Shape
     ensures rank { length result ≡ greatest_rank results.now }
     ensures few { length result ≤ 32 }
     ensures nouns { All IsNoun results.now }
-    ensures kinds { All (λ a. a.kind ≡ NumberKind) results.now }
 {
     let rank = greatest_rank(results);
     if rank == 0 {

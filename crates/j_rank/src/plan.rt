@@ -2,14 +2,14 @@
 ghost use Rattle.std.specs.Prelude.{◌≡◌, ◌<◌, ◌≤◌, ◌/◌, [], length, take, drop, IfOk, IfErr, IsOk};
 ghost use Rattle.j_definitions.specs.Array.{product};
 ghost use Rattle.j_rank.specs.Cells.{cell, cell_of_fills};
-ghost use Rattle.j_rank.specs.Answers.{limited, IsAnswer};
+ghost use Rattle.j_definitions.specs.Limits.{limited};
+ghost use Rattle.j_noun.specs.Held.{IsInline};
+ghost use Rattle.j_noun.specs.Refused.{OrWanting};
 ghost use Rattle.j_rank.specs.Plans.{dyad_plan, monad_plan, plan_of, planned, HasCells, Repeats};
 
 use crate::cells::{cell_of, fills_of, frame_of};
 use crate::sizes::{shape_of, size_within};
-use j_definitions::Fault;
-use j_noun::{NoMemory, Noun, Rank, Refusal, Shape};
-use std::alloc::Global;
+use j_noun::{Fault, NoMemory, Noun, Pool, Rank, Refusal, Shape};
 use std::marker::Model;
 
 /// Which cells meet, in the order of the frame. A monad's plan has one left cell.
@@ -111,38 +111,38 @@ impl Plan {
     }
 
     /// The left cell of pair k.
-    pub fn left(&self, alloc: Global, x: &Noun, k: usize) -> Result<Noun, NoMemory>
+    pub fn left(&self, pool: &mut Pool, x: &Noun, k: usize) -> Result<Noun, NoMemory>
         requires place { k < product self.now.agreed.frame }
         requires shape { HasCells self.now.left self.now.agreed.frame x.now.shape }
         ensures ok { IfOk result (λ a. a ≡ cell self.now.left x.now (k / self.now.agreed.left)) }
-        ensures atom { drop self.now.left x.now.shape ≡ [] → IsOk result }
+        ensures atom { IsInline (cell self.now.left x.now (k / self.now.agreed.left)) → IsOk result }
     {
-        cell_of(alloc, x, self.left.axes, k / self.left.times)
+        cell_of(pool, x, self.left.axes, k / self.left.times)
     }
 
     /// The right cell of pair k, or cell k of a monad.
-    pub fn right(&self, alloc: Global, y: &Noun, k: usize) -> Result<Noun, NoMemory>
+    pub fn right(&self, pool: &mut Pool, y: &Noun, k: usize) -> Result<Noun, NoMemory>
         requires place { k < product self.now.agreed.frame }
         requires shape { HasCells self.now.right self.now.agreed.frame y.now.shape }
         ensures ok { IfOk result (λ a. a ≡ cell self.now.right y.now (k / self.now.agreed.right)) }
-        ensures atom { drop self.now.right y.now.shape ≡ [] → IsOk result }
+        ensures atom { IsInline (cell self.now.right y.now (k / self.now.agreed.right)) → IsOk result }
     {
-        cell_of(alloc, y, self.right.axes, k / self.right.times)
+        cell_of(pool, y, self.right.axes, k / self.right.times)
     }
 
     /// A left cell of fills.
-    pub fn fill_left(&self, alloc: Global, x: &Noun) -> Result<Noun, Refusal>
+    pub fn fill_left(&self, pool: &mut Pool, x: &Noun) -> Result<Noun, Refusal>
         requires { self.now.left ≤ length x.now.shape }
-        ensures { IsAnswer (limited (cell_of_fills self.now.left x.now)) result }
+        ensures { OrWanting (limited (cell_of_fills self.now.left x.now)) result }
     {
-        fills_of(alloc, x, self.left.axes)
+        fills_of(pool, x, self.left.axes)
     }
 
     /// A right cell of fills.
-    pub fn fill_right(&self, alloc: Global, y: &Noun) -> Result<Noun, Refusal>
+    pub fn fill_right(&self, pool: &mut Pool, y: &Noun) -> Result<Noun, Refusal>
         requires { self.now.right ≤ length y.now.shape }
-        ensures { IsAnswer (limited (cell_of_fills self.now.right y.now)) result }
+        ensures { OrWanting (limited (cell_of_fills self.now.right y.now)) result }
     {
-        fills_of(alloc, y, self.right.axes)
+        fills_of(pool, y, self.right.axes)
     }
 }

@@ -2,8 +2,7 @@
 ghost use Rattle.std.specs.Prelude.{◌≡◌, ◌<◌, ◌≤◌, ◌+◌, ◌++◌, length, MatchOption, IfOk, IfErr};
 ghost use Rattle.j_definitions.specs.Array.{product};
 
-use j_definitions::Fault;
-use j_noun::Shape;
+use j_noun::{Fault, Shape};
 
 pub const CELL_LIMIT: usize = 4_194_304;
 

@@ -14,7 +14,7 @@ loop-r-init c =
 
 pub widen-requires : goal.widen-requires
 widen-requires c =
-    let within = rank_within c.args.results.now c.loop-r.r-index c.r-item.result c.axes.result.now c.greatest_rank-rank.result c.loop-r-test.true c.r-item.is c.axes.ensures c.greatest_rank-rank.ensures.value in
+    let within = rank_within c.args.results.now c.loop-r.r-index c.r-item.result c.axes.result.now c.greatest_rank-rank.result c.loop-r-test.true c.r-item.is c.axes.ensures.value c.greatest_rank-rank.ensures.value in
     omega (arith, within, c.loop-r.invariant.many)
 
 pub returns-then-rank-eq0-clause-value : goal.returns-then-rank-eq0-clause-value

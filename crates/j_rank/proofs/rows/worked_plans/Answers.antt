@@ -28,6 +28,12 @@ returns-clause-second_row c = refl
 pub returns-clause-row_of_fills : goal.returns-clause-row_of_fills
 returns-clause-row_of_fills c = refl
 
+pub returns-clause-second_box : goal.returns-clause-second_box
+returns-clause-second_box c = refl
+
+pub returns-clause-boxes_of_fills : goal.returns-clause-boxes_of_fills
+returns-clause-boxes_of_fills c = refl
+
 pub returns-clause-atoms_and_list : goal.returns-clause-atoms_and_list
 returns-clause-atoms_and_list c = refl
 

@@ -1,0 +1,8 @@
+use Rattle.std.proofs.Common.{take}
+use Rattle.j_definitions.specs.declared.Kind.TheVariants.{Number}
+use Rattle.j_rank.specs.Assembly.{atoms_of_all}
+use Rattle.j_rank.specs.Joined.{AreBitsOf}
+use Rattle.j_rank.proofs.gathering.gather_bits.Given as goal
+
+abbrev pub invariant-loop-r : goal.invariant-loop-r
+invariant-loop-r l = AreBitsOf (atoms_of_all Number l.common (take l.r-index l.results)) l.out.items
