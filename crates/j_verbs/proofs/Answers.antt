@@ -1,0 +1,61 @@
+-- The answers of calls on nouns, as runs.
+use Rattle.std.proofs.Common.{◌≡◌, Result, Ok, Err, ap, ◌∙◌, Option, Some, None, sym, subst, refl}
+use Rattle.j_definitions.specs.Array.{Array, IsNoun}
+use Rattle.j_leaves.specs.Spelling.{constant}
+use Rattle.j_definitions.specs.declared.Fault.TheVariants.{Domain, Nonce}
+use Rattle.j_definitions.specs.declared.Fault.{Fault}
+use Rattle.j_kernels.specs.declared.scalar.Scalar.{Scalar as ScalarVerb}
+use Rattle.j_leaves.specs.declared.primitive.Primitive.{Primitive}
+use Rattle.j_leaves.specs.declared.ranks.Ranks.{Ranks}
+use Rattle.j_noun.specs.Refused.{OrWanting}
+use Rattle.j_noun.specs.declared.refusal.Refusal.{Refusal}
+use Rattle.j_noun.specs.declared.refusal.Refusal.TheVariants as refusal
+use Rattle.j_verbs.specs.Answered.{Gives}
+use Rattle.j_verbs.specs.ByRank.{by_ranks}
+use Rattle.j_verbs.specs.Laws.{IsNounOrNone, AreZero, scalar}
+use Rattle.j_verbs.specs.State.{State, Run, Gave, or_fault}
+use Rattle.j_verbs.specs.Words.{always, done, left_of, scalar_cell, valence, word}
+use Rattle.j_verbs.specs.declared.table.Valence.{Valence}
+use Rattle.j_verbs.specs.declared.table.Valence.TheVariants.{Scalar, LeftArgument, RightArgument, Constant, LeftOut, Later, Absent}
+use Rattle.j_verbs.proofs.Scalars.{dyad_whole, monad_whole}
+
+pub gives_as : (m : Run Array) (q : Result Array Fault) (a : Result Array Refusal) → ((s : State) → m s ≡ or_fault q s) → OrWanting q a → Gives m a
+gives_as m q (Ok y) e h = λ s. e s ∙ ap (λ (q : Result Array Fault). or_fault q s) h
+gives_as m q (Err (refusal.Fault f)) e h = λ s. e s ∙ ap (λ (q : Result Array Fault). or_fault q s) h
+gives_as m q (Err refusal.NoMemory) e h = tt
+
+-- a word by ranks 0, where its valence is a scalar verb
+word_whole : (v : ScalarVerb) (p : Primitive) (r : Ranks) (x : Option Array) (y : Array) (s : State) → Scalar v ≡ valence p x → AreZero r x → IsNounOrNone x → IsNoun y → by_ranks r (word p) x y s ≡ or_fault (scalar v x y) s
+unfolding word
+word_whole v p r (Some x) y s e z nx ny = dyad_whole v (word p) r x y s (λ a b. ap (λ (w : Valence). done p w (Some a) b s) (sym e)) z nx ny
+word_whole v p r None y s e z nx ny = monad_whole v (word p) r y s (λ b. ap (λ (w : Valence). done p w None b s) (sym e)) z ny
+
+-- a scalar verb on whole nouns
+pub scalar_gives : (v : ScalarVerb) (p : Primitive) (r : Ranks) (x : Option Array) (y : Array) (a : Result Array Refusal) → Scalar v ≡ valence p x → AreZero r x → IsNounOrNone x → IsNoun y → OrWanting (scalar v x y) a → Gives (by_ranks r (word p) x y) a
+scalar_gives v p r x y a e z nx ny h = gives_as (by_ranks r (word p) x y) (scalar v x y) a (λ s. word_whole v p r x y s e z nx ny) h
+
+-- a word on one cell or two, by its valence
+pub word_gives : (w : Valence) (p : Primitive) (x : Option Array) (y : Array) (a : Result Array Refusal) → w ≡ valence p x → Gives (done p w x y) a → Gives (word p x y) a
+unfolding word
+word_gives w p x y a e h = subst (λ (w : Valence). Gives (done p w x y) a) e h
+
+pub scalar_word_gives : (v : ScalarVerb) (p : Primitive) (x : Option Array) (y : Array) (a : Result Array Refusal) → Scalar v ≡ valence p x → OrWanting (scalar_cell v x y) a → Gives (word p x y) a
+scalar_word_gives v p x y a e h = word_gives (Scalar v) p x y a e (gives_as (done p (Scalar v) x y) (scalar_cell v x y) a (λ s. refl) h)
+
+pub left_gives : (p : Primitive) (x : Option Array) (y a : Array) → LeftArgument ≡ valence p x → a ≡ left_of x y → Gives (word p x y) (Ok a)
+left_gives p x y a e h = word_gives LeftArgument p x y (Ok a) e (λ s. ap (λ (b : Array). Gave b s) (sym h))
+
+pub right_gives : (p : Primitive) (x : Option Array) (y a : Array) → RightArgument ≡ valence p x → a ≡ y → Gives (word p x y) (Ok a)
+right_gives p x y a e h = word_gives RightArgument p x y (Ok a) e (λ s. ap (λ (b : Array). Gave b s) (sym h))
+
+pub constant_gives : (p : Primitive) (x : Option Array) (y : Array) (a : Result Array Refusal) → Constant ≡ valence p x → OrWanting (always (constant p)) a → Gives (word p x y) a
+constant_gives p x y a e h = word_gives Constant p x y a e (gives_as (done p Constant x y) (always (constant p)) a (λ s. refl) h)
+
+pub left_out_gives : (p : Primitive) (x : Option Array) (y : Array) → LeftOut ≡ valence p x → Gives (word p x y) (Err (refusal.Fault Nonce))
+left_out_gives p x y e = word_gives LeftOut p x y (Err (refusal.Fault Nonce)) e (λ s. refl)
+
+pub later_gives : (p : Primitive) (x : Option Array) (y : Array) → Later ≡ valence p x → Gives (word p x y) (Err (refusal.Fault Nonce))
+later_gives p x y e = word_gives Later p x y (Err (refusal.Fault Nonce)) e (λ s. refl)
+
+pub absent_gives : (p : Primitive) (x : Option Array) (y : Array) → Absent ≡ valence p x → Gives (word p x y) (Err (refusal.Fault Domain))
+absent_gives p x y e = word_gives Absent p x y (Err (refusal.Fault Domain)) e (λ s. refl)

@@ -1,0 +1,5 @@
+pub mod State
+pub mod ByRank
+pub mod Words
+pub mod Answered
+pub mod Laws

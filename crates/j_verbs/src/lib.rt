@@ -1,0 +1,14 @@
+//! What the verbs that are one word do, on cells and on whole nouns, and the rule of cells.
+#![tactic(auto)]
+
+mod nouns;
+mod pairs;
+mod rows;
+mod table;
+mod words;
+
+pub use nouns::whole;
+pub use pairs::{fills, pair, planned};
+pub use rows::cell_laws;
+pub use table::{Valence, Valences, valences_of};
+pub use words::{cell, valence};

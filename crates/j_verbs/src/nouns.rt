@@ -1,0 +1,73 @@
+// Verbs that are one word, on whole nouns.
+ghost use Rattle.std.specs.Prelude.{◌≡◌, IfSome};
+ghost use Rattle.std.specs.Option.{option_copied};
+ghost use Rattle.j_definitions.specs.Array.{IsNoun};
+ghost use Rattle.j_noun.specs.Refused.{OrWanting};
+ghost use Rattle.j_verbs.specs.Answered.{Gives};
+ghost use Rattle.j_verbs.specs.ByRank.{by_ranks};
+ghost use Rattle.j_verbs.specs.Laws.{IsNounOrNone, AreZero, scalar};
+ghost use Rattle.j_verbs.specs.Words.{word, HasValence};
+
+use crate::table::Valence;
+use crate::words::valence;
+use j_kernels as kernels;
+use j_kernels::Scalar;
+use j_leaves::{Primitive, Ranks};
+use j_noun::{Noun, Pool, Rank, Refusal};
+
+fn is_noun(y: &Noun)
+    ensures { IsNoun y.now }
+{
+    let _ = y.view();
+}
+
+fn are_nouns(x: Option<&Noun>, y: &Noun)
+    ensures left { IsNounOrNone (option_copied x.entry) }
+    ensures right { IsNoun y.now }
+{
+    is_noun(y);
+    if let Some(x) = x {
+        is_noun(x);
+    }
+}
+
+// Whether the ranks of the valence are 0, so that each atom is a cell.
+fn are_zero(r: Ranks, x: Option<&Noun>) -> Option<()>
+    ensures { IfSome result (λ _. AreZero r (option_copied x.entry)) }
+{
+    let zero = Rank::Number(0);
+    let are = match x {
+        Some(_) => r.left == zero && r.right == zero,
+        None => r.monad == zero,
+    };
+    if are { Some(()) } else { None }
+}
+
+// A scalar verb on whole nouns.
+fn scalar(pool: &mut Pool, v: Scalar, x: Option<&Noun>, y: &Noun) -> Result<Noun, Refusal>
+    requires { HasValence v (option_copied x) }
+    ensures { OrWanting (scalar v (option_copied x.entry) y.now) result }
+{
+    match x {
+        Some(x) => kernels::dyad(v, pool, x, y),
+        None => kernels::monad(v, pool, y),
+    }
+}
+
+/// What a word gives by these ranks on all cells of its arguments at once, where it is served so. `None` says nothing of the verb: the caller goes through the cells.
+pub fn whole(
+    pool: &mut Pool,
+    p: Primitive,
+    r: Ranks,
+    x: Option<&Noun>,
+    y: &Noun,
+) -> Option<Result<Noun, Refusal>>
+    ensures { IfSome result (λ a. Gives (by_ranks r (word p) (option_copied x.entry) y.now) a) }
+{
+    let Valence::Scalar(v) = valence(p, x) else {
+        return None;
+    };
+    are_zero(r, x)?;
+    are_nouns(x, y);
+    Some(scalar(pool, v, x, y))
+}
