@@ -26,7 +26,7 @@ is_name class.Name = true
 is_name _ = false
 
 abbrev known_as : Class → List ℕ → Bool
-known_as c w = is_name c || is_known (item_as c w)
+known_as c w = is_name c || is_known (item_as false c w)
 
 among_all : (test : List ℕ → Bool) (w : List ℕ) (ws : List (List ℕ)) → list_all test ws ≡ true → list_any (λ x. bytes_eq x w) ws ≡ true → test w ≡ true
 among_all test w [] all any = absurd (cc)
@@ -62,15 +62,15 @@ the_name : (c : Class) → is_name c ≡ true → c ≡ class.Name
 the_name class.Name h = refl
 the_name _ h = absurd (cc)
 
-pub spelled : (w : List ℕ) → (class_or_name (look_up w) ≡ class.Name → ⊥) → item_as (class_or_name (look_up w)) w ≡ Err fault.Spelling → ⊥
+pub spelled : (w : List ℕ) → (class_or_name (look_up w) ≡ class.Name → ⊥) → item_as false (class_or_name (look_up w)) w ≡ Err fault.Spelling → ⊥
 spelled w no_name e =
     let c = class_or_name (look_up w) in
-    ⊎_elim (λ named. no_name (the_name c named)) (λ known. never_spelling (item_as c w) known e) (or_cases (is_name c) (is_known (item_as c w)) (class_known w))
+    ⊎_elim (λ named. no_name (the_name c named)) (λ known. never_spelling (item_as false c w) known e) (or_cases (is_name c) (is_known (item_as false c w)) (class_known w))
 
 cond_twice : {A : Type 0} (a b : Bool) (x y z : A) → a ≡ true → b ≡ true → cond a (cond b x y) z ≡ x
 cond_twice a b x y z h k = cond-true a (cond b x y) z h ∙ cond-true b x y k
 
-pub simple_named : (w : List ℕ) → IsTrue (is_simple_name w) → item_as class.Name w ≡ Ok (simple w)
+pub simple_named : (w : List ℕ) → IsTrue (is_simple_name w) → item_as false class.Name w ≡ Ok (simple w)
 simple_named w h =
     let both = and_parts (has_name_bytes w) (is_simple w) h in
     let of_form : name_form w ≡ Some form.Simple = cond_twice (has_name_bytes w) (is_simple w) (Some form.Simple) _ None both.0 both.1 in

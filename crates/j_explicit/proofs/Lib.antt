@@ -1,4 +1,4 @@
-pub mod Lists
 pub mod Items
 pub mod Placed
 pub mod Known
+pub mod Texts

@@ -1,6 +1,8 @@
 -- What the calls tell of a line, and of a word of it.
 use Rattle.std.specs.Prelude.{◌≡◌, Result, Ok, Err}
 use Rattle.j_definitions.specs.declared.Fault.{Fault}
+use Rattle.j_noun.specs.declared.refusal.Refusal.{Refusal}
+use Rattle.j_noun.specs.declared.refusal.Refusal.TheVariants.{Fault as RefusedFault, NoMemory as RefusedMemory}
 use Rattle.j_numbers.specs.declared.fault.NumberFault.{NumberFault}
 use Rattle.j_numbers.specs.declared.fault.NumberFault.TheVariants as number
 use Rattle.j_words.specs.declared.WordFault.{WordFault}
@@ -22,7 +24,12 @@ abbrev pub IsItem : Result WordTree Fault → Result Item LineFault → Type 0
 IsItem said (Ok i) = said ≡ Ok (word_of i)
 IsItem said (Err f) = IsLineFault said f
 
--- the refusals of words and of number words, as those of a line
+-- the word that is said, or its fault
+abbrev pub IsExactItem : Result WordTree Fault → Result Item Fault → Type 0
+IsExactItem said (Ok i) = said ≡ Ok (word_of i)
+IsExactItem said (Err f) = said ≡ Err f
+
+-- the refusals of words, of number words and of nouns, as those of a line
 abbrev pub refused_word : WordFault → LineFault
 refused_word word.NoMemory = line.NoMemory
 refused_word f = line.Fault (fault_of_word f)
@@ -30,3 +37,7 @@ refused_word f = line.Fault (fault_of_word f)
 abbrev pub refused_number : NumberFault → LineFault
 refused_number number.NoMemory = line.NoMemory
 refused_number f = line.Fault (fault_of_number f)
+
+abbrev pub refused_noun : Refusal → LineFault
+refused_noun RefusedMemory = line.NoMemory
+refused_noun (RefusedFault f) = line.Fault f

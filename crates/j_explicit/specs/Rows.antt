@@ -1,7 +1,7 @@
 -- Words of sentences, as rows worked out by hand name them.
 use Rattle.std.specs.Prelude.{ℕ, ℤ, List, [], ◌∷◌, map, length}
-use Rattle.j_definitions.specs.Array.{number}
-use Rattle.j_definitions.specs.declared.Kind.TheVariants.{Number}
+use Rattle.j_definitions.specs.Array.{number, byte}
+use Rattle.j_definitions.specs.declared.Kind.TheVariants.{Number, Character}
 use Rattle.j_leaves.specs.declared.primitive.Primitive.{Primitive}
 use Rattle.j_leaves.specs.declared.modifier.Modifier.{Modifier}
 use Rattle.j_leaves.specs.declared.name.Place.TheVariants.{Here}
@@ -12,6 +12,12 @@ atom z = entity (a_noun (record { kind = Number; shape = []; atoms = number z �
 
 abbrev pub list : List ℤ → WordTree
 list zs = entity (a_noun (record { kind = Number; shape = length zs ∷ []; atoms = map number zs }))
+
+abbrev pub character : ℕ → WordTree
+character b = entity (a_noun (record { kind = Character; shape = []; atoms = byte b ∷ [] }))
+
+abbrev pub characters : List ℕ → WordTree
+characters bs = entity (a_noun (record { kind = Character; shape = length bs ∷ []; atoms = map byte bs }))
 
 abbrev pub verb : Primitive → WordTree
 verb p = entity (a_verb (primitive p))

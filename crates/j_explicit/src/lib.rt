@@ -5,11 +5,12 @@ mod fault;
 mod item;
 mod reading;
 mod rows;
+mod text;
 
 pub use fault::LineFault;
 pub use j_entity::{Entity, Item, Prepared};
 pub use reading::prepare;
-pub use rows::{spelling_laws, worked_rows};
+pub use rows::{spelling_laws, text_laws, worked_rows};
 
 #[cfg(test)]
 mod tests;

@@ -1,13 +1,17 @@
 // Lines worked out by hand, and what holds of every word.
-ghost use Rattle.std.specs.Prelude.{ℕ, List, ◌≡◌, ◌≢◌, ◌∷◌, [], codes, pos, negsuc, IsTrue, Ok, Err};
+ghost use Rattle.std.specs.Prelude.{ℕ, List, false, ◌≡◌, ◌≢◌, ◌∷◌, [], codes, pos, negsuc, IsTrue, Ok, Err};
 ghost use Rattle.j_definitions.specs.declared.Fault.TheVariants as fault;
+ghost use Rattle.j_noun.specs.declared.ranks.RankPart.TheVariants.{Number, Infinite};
+ghost use Rattle.j_words.specs.Forms.{doubled};
+ghost use Rattle.j_words.specs.Lines.{is_word};
 ghost use Rattle.j_words.specs.Vocabulary.{look_up, class_or_name, is_simple_name};
 ghost use Rattle.j_words.specs.declared.Class.TheVariants as class;
 ghost use Rattle.j_leaves.specs.declared.primitive.Primitive.TheVariants as p;
 ghost use Rattle.j_leaves.specs.declared.modifier.Modifier.TheVariants as m;
-ghost use Rattle.j_entity.specs.Tree.{local_copula, global_copula, open_mark, close_mark};
-ghost use Rattle.j_explicit.specs.Reading.{item_as, reading};
-ghost use Rattle.j_explicit.specs.Rows.{atom, list, verb, conjunction, simple};
+ghost use Rattle.j_entity.specs.Tree.{ranks_word, local_copula, global_copula, open_mark, close_mark};
+ghost use Rattle.j_explicit.specs.Reading.{item_as, items_of, reading};
+ghost use Rattle.j_explicit.specs.Texts.{halved};
+ghost use Rattle.j_explicit.specs.Rows.{atom, list, character, characters, verb, conjunction, simple};
 
 /// Laws: lines worked out by hand.
 pub fn worked_rows()
@@ -26,7 +30,23 @@ pub fn worked_rows()
     ensures direct_locative { reading (codes "f_z_ 1") ≡ Err fault.Nonce }
     ensures object_locative { reading (codes "f__z 1") ≡ Err fault.Nonce }
     ensures no_name { reading (codes "f_ 1") ≡ Err fault.Spelling }
-    ensures text { reading (codes "f =: 'abc'") ≡ Err fault.Nonce }
+    ensures text { reading (codes "f =: 'abc'") ≡ Ok (simple (codes "f") ∷ global_copula ∷ characters (codes "abc") ∷ []) }
+    ensures doubled_quote { reading (codes "'it''s'") ≡ Ok (characters (codes "it's") ∷ []) }
+    ensures one_byte { reading (codes "'a'") ≡ Ok (character 97 ∷ []) }
+    ensures one_quote { reading (codes "''''") ≡ Ok (character 39 ∷ []) }
+    ensures two_quotes { reading (codes "''''''") ≡ Ok (characters (39 ∷ 39 ∷ []) ∷ []) }
+    ensures empty_text { reading (codes "''") ≡ Ok (characters [] ∷ []) }
+    ensures text_at_end { reading (codes "-'a'") ≡ Ok (verb p.Minus ∷ character 97 ∷ []) }
+    ensures control_in_text { reading (codes "'if. do.'") ≡ Ok (characters (codes "if. do.") ∷ []) }
+    ensures open_quote { reading (codes "1x 'abc") ≡ Err fault.OpenQuote }
+    ensures texts_in_order { reading (codes "'1x' 2x 'y'") ≡ Err fault.IllFormed }
+    ensures ranks { items_of (codes "+\"_ 0") false (is_word class.Verb 0 1 ∷ is_word class.Conjunction 1 2 ∷ is_word class.Number 2 5 ∷ []) ≡ Ok (verb p.Plus ∷ conjunction m.Rank ∷ ranks_word (Infinite ∷ Number (pos 0) ∷ []) ∷ []) }
+    ensures power_ranks { items_of (codes "^:_") false (is_word class.Conjunction 0 2 ∷ is_word class.Number 2 3 ∷ []) ≡ Ok (conjunction m.PowerOf ∷ ranks_word (Infinite ∷ []) ∷ []) }
+    ensures numbers_as_ranks { items_of (codes "\"1 2") false (is_word class.Conjunction 0 1 ∷ is_word class.Number 1 4 ∷ []) ≡ Ok (conjunction m.Rank ∷ list (pos 1 ∷ pos 2 ∷ []) ∷ []) }
+    ensures not_left { items_of (codes "_\"") false (is_word class.Number 0 1 ∷ is_word class.Conjunction 1 2 ∷ []) ≡ Err fault.IllFormed }
+    ensures not_directly { items_of (codes "\"(_") false (is_word class.Conjunction 0 1 ∷ is_word class.Open 1 2 ∷ is_word class.Number 2 3 ∷ []) ≡ Err fault.IllFormed }
+    ensures not_elsewhere { reading (codes "+_ 0") ≡ Err fault.IllFormed }
+    ensures not_right_of_at { reading (codes "@:_") ≡ Err fault.IllFormed }
     ensures noun_word { reading (codes "f =: a.") ≡ Err fault.Nonce }
     ensures control { reading (codes "f =: if.") ≡ Err fault.Nonce }
     ensures letter { reading (codes "1x") ≡ Err fault.IllFormed }
@@ -38,6 +58,11 @@ pub fn worked_rows()
 
 /// Laws: no word of the vocabulary, let through now or only later, is misspelled as what its class says; and a simple name is the name of its bytes.
 pub fn spelling_laws()
-    ensures words { (w : List ℕ) → class_or_name (look_up w) ≢ class.Name → item_as (class_or_name (look_up w)) w ≢ Err fault.Spelling }
-    ensures names { (w : List ℕ) → IsTrue (is_simple_name w) → item_as class.Name w ≡ Ok (simple w) }
+    ensures words { (w : List ℕ) → class_or_name (look_up w) ≢ class.Name → item_as false (class_or_name (look_up w)) w ≢ Err fault.Spelling }
+    ensures names { (w : List ℕ) → IsTrue (is_simple_name w) → item_as false class.Name w ≡ Ok (simple w) }
+{}
+
+/// Laws: a text is read as it is written, with each of its quotes doubled.
+pub fn text_laws()
+    ensures { (t : List ℕ) → halved (doubled t) ≡ t }
 {}
