@@ -1,1 +1,7 @@
-pub mod Spacing
+pub mod Widening
+pub mod Stacking
+pub mod Bounds
+pub mod Cells
+pub mod LineRows
+pub mod Fitting
+pub mod Wholes

@@ -1,3 +1,6 @@
+pub mod Rows
 pub mod Display
-pub mod Spaced
 pub mod Shown
+pub mod Samples
+pub mod Sizes
+pub mod Lines

@@ -1,127 +1,198 @@
 // How values are shown.
-ghost use Rattle.std.specs.Prelude.{◌≡◌, ◌≤◌, ◌++◌, length, map, OnOk};
-ghost use Rattle.j_definitions.specs.Array.{number};
-ghost use Rattle.j_numbers.specs.Printed.{printed};
+ghost use Rattle.std.specs.Prelude.{◌≡◌, ◌≢◌, ◌+◌, ◌*◌, ◌≤◌, ◌<◌, ◌∷◌, [], length, map};
+ghost use Rattle.j_definitions.specs.Array.{byte, product};
+ghost use Rattle.j_definitions.specs.declared.Kind.TheVariants.{Number, Character};
+ghost use Rattle.j_noun.specs.Viewed.{viewed, kind_viewed};
+ghost use Rattle.j_display.specs.Rows.{lines_stacked, atoms_rows, rows_without_atoms, noun_rows, joined};
+ghost use Rattle.j_display.specs.Display.{entity_rows};
 ghost use Rattle.j_entity.specs.View.{entity_of};
-ghost use Rattle.j_display.specs.Display.{row, row_of_atoms, row_of_word, rows};
-ghost use Rattle.j_display.specs.Spaced.{spaced};
+ghost use Rattle.j_display.specs.Sizes.{stacked_bytes};
+ghost use Rattle.j_display.specs.Lines.{HasLines, shown_lines};
 ghost use Rattle.j_display.specs.Shown.{IsShown};
 
-use itoa::Buffer;
+use crate::columns::column_widths;
+use crate::lines::{Lines, append, append_lines};
+use crate::sizes::{row_bytes, stacked_bytes};
 use j_entity::Entity;
-use j_noun::{Fault, Noun, Refusal, View};
-use std::alloc::AllocError;
+use j_noun::{Fault, Noun, Pool, Refusal, View};
 
-/// How many bytes a number takes.
-fn printed_length(n: i64) -> usize
-    ensures value { result ≡ length (printed n) }
-    ensures few { result ≤ 41 }
+/// Shows lines that a frame arranges, whose rows take so many bytes each.
+fn show_lines(
+    frame: &[usize],
+    lines: Lines<'_>,
+    row: usize,
+    room: usize,
+    into: &mut Vec<u8>,
+) -> Result<(), Refusal>
+    requires lines { HasLines lines (product frame.now) }
+    requires some { 0 < product frame.now }
+    requires rank { length frame.now ≤ 32 }
+    requires light { product frame.now * row ≤ 1073741824 }
+    requires size { length (shown_lines frame.now lines 0) ≡ stacked_bytes frame.now row }
+    ensures { IsShown result (shown_lines frame.now lines.entry 0) room into.old.items into.new.items }
 {
-    let mut buffer = Buffer::new();
-    let digits = buffer.format(n.unsigned_abs()).len();
-    if n < 0 { digits + 1 } else { digits }
-}
-
-fn append_number(n: i64, into: &mut Vec<u8>) -> Result<(), AllocError>
-    ensures { OnOk result (into.new.items ≡ into.old.items ++ printed n) }
-{
-    let mut buffer = Buffer::new();
-    if n < 0 {
-        into.push(b'_')?;
-    }
-    into.extend_from_slice(buffer.format(n.unsigned_abs()).as_bytes())
-}
-
-/// How many bytes a row of numbers takes, with its line feed.
-fn row_length(numbers: &[i64]) -> usize
-    requires { length numbers.now ≤ 4194304 }
-    ensures { result ≡ length (row_of_atoms (map number numbers.now)) }
-{
-    let mut bytes = 0;
-    for n in numbers {
-        bytes += printed_length(*n) + 1;
-    }
-    if numbers.is_empty() { 1 } else { bytes }
-}
-
-/// Appends numbers, each with a blank before it.
-fn print_spaced(numbers: &[i64], into: &mut Vec<u8>) -> Result<(), AllocError>
-    ensures { OnOk result (into.new.items ≡ into.old.items ++ spaced numbers.now) }
-{
-    for n in numbers {
-        into.push(b' ')?;
-        append_number(*n, into)?;
-    }
-    Ok(())
-}
-
-/// Appends a row of numbers.
-fn print_row(numbers: &[i64], into: &mut Vec<u8>) -> Result<(), AllocError>
-    ensures { OnOk result (into.new.items ≡ into.old.items ++ row_of_atoms (map number numbers.now)) }
-{
-    match numbers.split_first() {
-        None => Ok(into.push(b'\n')?),
-        Some((first, rest)) => {
-            append_number(*first, into)?;
-            print_spaced(rest, into)?;
-            Ok(into.push(b'\n')?)
-        }
-    }
-}
-
-fn show_numbers(numbers: &[i64], room: usize, into: &mut Vec<u8>) -> Result<(), Refusal>
-    requires { length numbers.now ≤ 4194304 }
-    ensures { IsShown result (row_of_atoms (map number numbers.now)) room into.old.items into.new.items }
-{
-    let bytes = row_length(numbers);
+    let bytes = stacked_bytes(frame, row);
     if bytes > room {
         return Err(Refusal::Fault(Fault::Limit));
     }
-    if into.reserve_exact(bytes).is_err() {
+    let Ok(()) = into.reserve(bytes) else {
         return Err(Refusal::NoMemory);
+    };
+    append_lines(frame, lines, 0, into);
+    Ok(())
+}
+
+/// Shows characters in lines of one length.
+fn show_characters(
+    frame: &[usize],
+    columns: usize,
+    characters: &[u8],
+    room: usize,
+    into: &mut Vec<u8>,
+) -> Result<(), Refusal>
+    requires some { 0 < product frame.now }
+    requires rank { length frame.now ≤ 32 }
+    requires whole { product frame.now * columns ≡ length characters.now }
+    requires few { length characters.now ≤ 4194304 }
+    requires count { product frame.now ≤ 4194304 }
+    ensures { IsShown result (joined (lines_stacked Character frame.now columns (map byte characters.now))) room into.old.items into.new.items }
+{
+    let atoms = View::Bytes(characters);
+    let widths = [];
+    let lines = Lines {
+        atoms,
+        columns,
+        widths: &widths,
+    };
+    show_lines(frame, lines, columns + 1, room, into)
+}
+
+/// Shows numbers in lines of one length.
+fn show_numbers(
+    pool: &mut Pool,
+    frame: &[usize],
+    columns: usize,
+    atoms: View<'_>,
+    room: usize,
+    into: &mut Vec<u8>,
+) -> Result<(), Refusal>
+    requires kind { kind_viewed atoms ≡ Number }
+    requires some { 0 < product frame.now }
+    requires rank { length frame.now ≤ 32 }
+    requires column { 0 < columns }
+    requires whole { product frame.now * columns ≡ length (viewed atoms) }
+    requires few { length (viewed atoms) ≤ 4194304 }
+    requires count { product frame.now ≤ 4194304 }
+    ensures { IsShown result (joined (lines_stacked Number frame.now columns (viewed atoms.entry))) room into.old.items into.new.items }
+{
+    let count = view_len(atoms) / columns;
+    let widths = column_widths(pool, atoms, count, columns)?;
+    let row = row_bytes(&widths);
+    let lines = Lines {
+        atoms,
+        columns,
+        widths: &widths,
+    };
+    let shown = show_lines(frame, lines, row, room, into);
+    pool.give_back_bytes(widths);
+    shown
+}
+
+/// Shows a noun with atoms.
+fn show_atoms(
+    pool: &mut Pool,
+    axes: &[usize],
+    atoms: View<'_>,
+    room: usize,
+    into: &mut Vec<u8>,
+) -> Result<(), Refusal>
+    requires some { 0 < length (viewed atoms) }
+    requires few { length (viewed atoms) ≤ 4194304 }
+    requires many { length (viewed atoms) ≡ product axes.now }
+    requires rank { length axes.now ≤ 32 }
+    ensures { IsShown result (joined (atoms_rows (kind_viewed atoms.entry) axes.now (viewed atoms.entry))) room into.old.items into.new.items }
+{
+    let (frame, line) = axes.split_at(axes.len().saturating_sub(1));
+    let columns = columns_of(line);
+    match atoms {
+        View::Bytes(bytes) => show_characters(frame, columns, bytes, room, into),
+        View::Boxes(_) => Ok(()),
+        View::Wholes(_) | View::Bits(_) => { show_numbers(pool, frame, columns, atoms, room, into) }
     }
-    match print_row(numbers, into) {
+}
+
+/// How many atoms a line has, by the last axis, if there is one.
+fn columns_of(line: &[usize]) -> usize
+    requires { length line.now ≤ 1 }
+    ensures { result ≡ product line.now }
+{
+    match line {
+        [n] => *n,
+        _ => 1,
+    }
+}
+
+/// How many atoms there are.
+fn view_len(atoms: View<'_>) -> usize
+    ensures { result ≡ length (viewed atoms.entry) }
+{
+    match atoms {
+        View::Wholes(numbers) => numbers.len(),
+        View::Bits(bits) => bits.len(),
+        View::Bytes(bytes) => bytes.len(),
+        View::Boxes(boxes) => boxes.len(),
+    }
+}
+
+/// Shows a noun without atoms.
+fn show_no_atoms(axes: &[usize], room: usize, into: &mut Vec<u8>) -> Result<(), Refusal>
+    ensures { IsShown result (joined (rows_without_atoms axes.now)) room into.old.items into.new.items }
+{
+    if axes.len() != 1 {
+        return Ok(());
+    }
+    if room == 0 {
+        return Err(Refusal::Fault(Fault::Limit));
+    }
+    match into.push(b'\n') {
         Ok(()) => Ok(()),
         Err(_) => Err(Refusal::NoMemory),
     }
 }
 
-// The row of a noun.
-fn show_noun(y: &Noun, room: usize, into: &mut Vec<u8>) -> Result<(), Refusal>
-    ensures { IsShown result (row y.now) room into.old.items into.new.items }
+/// Shows a noun.
+fn show_noun(pool: &mut Pool, y: &Noun, room: usize, into: &mut Vec<u8>) -> Result<(), Refusal>
+    ensures { IsShown result (joined (noun_rows y.now)) room into.old.items into.new.items }
 {
-    match y.view() {
-        View::Wholes(numbers) => show_numbers(numbers, room, into),
+    let atoms = y.view();
+    if view_len(atoms) == 0 {
+        return show_no_atoms(y.axes(), room, into);
     }
+    show_atoms(pool, y.axes(), atoms, room, into)
 }
 
-/// Appends a row that is a word.
-fn print_word(word: &[u8], into: &mut Vec<u8>) -> Result<(), AllocError>
-    ensures { OnOk result (into.new.items ≡ into.old.items ++ row_of_word word.now) }
-{
-    into.extend_from_slice(word)?;
-    Ok(into.push(b'\n')?)
-}
-
+/// Shows a row that is a word.
 fn show_word(word: &[u8], room: usize, into: &mut Vec<u8>) -> Result<(), Refusal>
     requires { length word.now ≤ 11 }
-    ensures { IsShown result (row_of_word word.now) room into.old.items into.new.items }
+    ensures { IsShown result (joined (word.now ∷ [])) room into.old.items into.new.items }
 {
     if word.len() + 1 > room {
         return Err(Refusal::Fault(Fault::Limit));
     }
-    match print_word(word, into) {
-        Ok(()) => Ok(()),
-        Err(_) => Err(Refusal::NoMemory),
-    }
+    let Ok(()) = into.reserve(word.len() + 1) else {
+        return Err(Refusal::NoMemory);
+    };
+    append(into, word);
+    into.push_reserved(b'\n');
+    Ok(())
 }
 
-/// Appends what a value shows, where it has at most `room` bytes. Else it is `limit error`, and nothing is appended.
-pub fn show(e: &Entity, room: usize, into: &mut Vec<u8>) -> Result<(), Refusal>
-    ensures { IsShown result (rows (entity_of e.now)) room into.old.items into.new.items }
+/// Appends the rows of a value, each with a line feed, where they have at most `room` bytes.
+pub fn show(pool: &mut Pool, e: &Entity, room: usize, into: &mut Vec<u8>) -> Result<(), Refusal>
+    ensures { IsShown result (joined (entity_rows (entity_of e.now))) room into.old.items into.new.items }
 {
     match e {
-        Entity::Noun(y) => show_noun(y, room, into),
+        Entity::Noun(y) => show_noun(pool, y, room, into),
         Entity::Verb(_) => show_word(b"verb", room, into),
         Entity::Adverb(_) => show_word(b"adverb", room, into),
         Entity::Conjunction(_) => show_word(b"conjunction", room, into),
