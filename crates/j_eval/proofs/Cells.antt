@@ -3,14 +3,16 @@ use Rattle.std.proofs.Common.{◌≡◌, ℕ, suc, ◌+◌, ◌-◌, ◌<◌, �
 use Rattle.std.specs.Prelude.{IfOk}
 use Rattle.std.specs.List.{range_with_len}
 use Rattle.j_definitions.specs.Array.{Array, product}
+use Rattle.j_definitions.specs.declared.Fault.{Fault}
 use Rattle.j_leaves.specs.declared.ranks.Ranks.{Ranks}
 use Rattle.j_rank.specs.Assembly.{assemble}
 use Rattle.j_rank.specs.Plans.{Planned, planned}
 use Rattle.j_eval.specs.declared.outcome.Halt.{Halt}
 use Rattle.j_eval.specs.declared.outcome.Halt.TheVariants as halt
-use Rattle.j_eval.specs.ByRank.{Doing, Cells, IsWhole, planned_for, pair, over_cells, on_cells, by_count, by_plan, by_ranks}
-use Rattle.j_eval.specs.State.{State, Outcome, Gave, Erred, Spent, Run, then_do, ◌>>=◌, pure, or_fault}
-use Rattle.j_eval.specs.Meets.{Running, Meets, IsPart}
+use Rattle.j_verbs.specs.ByRank.{Doing, Cells, IsWhole, planned_for, pair, over_pairs, on_pairs, on_fills, source, by_source, by_plan, by_ranks}
+use Rattle.j_verbs.specs.State.{State, Outcome, Gave, Erred, Spent, Run, then_do, ◌>>=◌, pure, or_fault}
+use Rattle.j_eval.specs.Meets.{Running, Meets}
+use Rattle.j_verbs.proofs.Sources.{none_met, some_met}
 use Rattle.j_eval.proofs.Parts.{then_err}
 
 module _ (f : Doing) (p : Planned) (x : Option Array) (y : Array) where
@@ -23,7 +25,7 @@ module _ (f : Doing) (p : Planned) (x : Option Array) (y : Array) where
   joined done more = or_fault (assemble p.agreed.frame (done ++ more))
 
   abbrev with_rest : List Array → List Cells → Run Array
-  with_rest done cs = over_cells f cs >>= joined done
+  with_rest done cs = over_pairs f cs >>= joined done
 
   -- what is left from place k on
   unfoldable pub going : ℕ → List Array → Run Array
@@ -34,7 +36,7 @@ module _ (f : Doing) (p : Planned) (x : Option Array) (y : Array) where
 
   -- the results of the cells after place k
   abbrev after : ℕ → Array → Run (List Array)
-  after k r = over_cells f (cells_from (k + 1) (product p.agreed.frame - (k + 1))) >>= (λ more. pure (r ∷ more))
+  after k r = over_pairs f (cells_from (k + 1) (product p.agreed.frame - (k + 1))) >>= (λ more. pure (r ∷ more))
 
   -- one result more
   joined_more : (done : List Array) (r : Array) (o : Outcome (List Array)) → then_do (then_do o (λ more. pure (r ∷ more))) (joined done) ≡ then_do o (joined (done ++ r ∷ []))
@@ -45,24 +47,24 @@ module _ (f : Doing) (p : Planned) (x : Option Array) (y : Array) where
   at_pair : (k : ℕ) (a b : Option Array) (d : Array) (s : State) → a ≡ b → (b, d) ≡ pair p x y k → f a d s ≡ f (pair p x y k).0 (pair p x y k).1 s
   at_pair k a b d s e q = ap (λ (a : Option Array). f a d s) e ∙ ap (λ (c : Cells). f c.0 c.1 s) q
 
-  pub cells_begun : (done : List Array) (s : State) → done ≡ [] → going 0 done s ≡ on_cells f p x y s
+  pub cells_begun : (done : List Array) (s t : State) → done ≡ [] → s ≡ t → going 0 done s ≡ on_pairs f (source p x y) t
   unfolding going
-  cells_begun done s e =
+  cells_begun done s t e q =
       let n : product p.agreed.frame - 0 ≡ product p.agreed.frame = omega arith in
-      ap (λ (done : List Array). going 0 done s) e ∙ ap (λ (n : ℕ). with_rest [] (cells_from 0 n) s) n
+      ap (λ (done : List Array). going 0 done s) e ∙ ap (λ (n : ℕ). with_rest [] (cells_from 0 n) s) n ∙ ap (on_pairs f (source p x y)) q
 
-  pub cells_more : (k : ℕ) (a b : Option Array) (d : Array) (done done' : List Array) (r : Array) (s t : State) → k < product p.agreed.frame → a ≡ b → (b, d) ≡ pair p x y k → f a d s ≡ Gave r t → done' ≡ done ++ r ∷ [] → going k done s ≡ going (k + 1) done' t
+  pub cells_more : (k : ℕ) (a b : Option Array) (d : Array) (done done' : List Array) (r : Array) (s u t t' : State) → k < product p.agreed.frame → a ≡ b → (b, d) ≡ pair p x y k → f a d u ≡ Gave r t → done' ≡ done ++ r ∷ [] → u ≡ s → t' ≡ t → going k done s ≡ going (k + 1) done' t'
   unfolding going
-  cells_more k a b d done done' r s t l e q h g =
+  cells_more k a b d done done' r s u t t' l e q h g w z =
       ap (λ (cs : List Cells). with_rest done cs s) (rest_more k l)
-      ∙ ap (λ (o : Outcome Array). then_do (then_do o (after k)) (joined done)) (sym (at_pair k a b d s e q) ∙ h)
-      ∙ joined_more done r (over_cells f (cells_from (k + 1) (product p.agreed.frame - (k + 1))) t)
-      ∙ ap (λ (done : List Array). going (k + 1) done t) (sym g)
+      ∙ ap (λ (o : Outcome Array). then_do (then_do o (after k)) (joined done)) (sym (at_pair k a b d s e q) ∙ sym (ap (f a d) w) ∙ h)
+      ∙ joined_more done r (over_pairs f (cells_from (k + 1) (product p.agreed.frame - (k + 1))) t)
+      ∙ ap (λ (done : List Array). going (k + 1) done t) (sym g) ∙ ap (going (k + 1) done') (sym z)
 
-  pub cells_err : (k : ℕ) (a b : Option Array) (d : Array) (done : List Array) (e : Halt) (m : Running) (s : State) (o : Outcome Array) → k < product p.agreed.frame → a ≡ b → (b, d) ≡ pair p x y k → Meets {A = Array} (Err e) m (f a d s) → going k done s ≡ o → Meets {A = Array} (Err e) m o
+  pub cells_err : (k : ℕ) (a b : Option Array) (d : Array) (done : List Array) (e : Halt) (m : Running) (s u : State) (o : Outcome Array) → k < product p.agreed.frame → a ≡ b → (b, d) ≡ pair p x y k → Meets {A = Array} (Err e) m (f a d u) → going k done s ≡ o → u ≡ s → Meets {A = Array} (Err e) m o
   unfolding going
-  cells_err k a b d done e m s o l q g h w =
-      let first : Meets {A = Array} (Err e) m (f (pair p x y k).0 (pair p x y k).1 s) = subst (Meets {A = Array} (Err e) m) (at_pair k a b d s q g) h in
+  cells_err k a b d done e m s u o l q g h w z =
+      let first : Meets {A = Array} (Err e) m (f (pair p x y k).0 (pair p x y k).1 s) = subst (Meets {A = Array} (Err e) m) (ap (f a d) z ∙ at_pair k a b d s q g) h in
       let both = then_err {A = List Array} {B = Array} e m (then_do (f (pair p x y k).0 (pair p x y k).1 s) (after k)) (joined done) (then_err {A = Array} {B = List Array} e m (f (pair p x y k).0 (pair p x y k).1 s) (after k) first) in
       subst (Meets {A = Array} (Err e) m) (ap (λ (cs : List Cells). with_rest done cs s) (sym (rest_more k l)) ∙ w) both
 
@@ -73,15 +75,22 @@ module _ (f : Doing) (p : Planned) (x : Option Array) (y : Array) where
       let all : done ++ [] ≡ done = simp append-nil in
       ap (λ (n : ℕ). with_rest done (cells_from k n) s) n ∙ ap (λ (all : List Array). or_fault (assemble p.agreed.frame all) s) all ∙ ap (λ (frame : List ℕ). or_fault (assemble frame done) s) (sym e)
 
+  -- a frame that holds a 0, and one that doesn't
+  pub where_none : (s : State) (a : Result Array Halt) (m : Running) → product p.agreed.frame ≡ 0 → Meets a m (on_fills f (source p x y) s) → Meets a m (by_source f (source p x y) s)
+  where_none s a m e h = subst (Meets a m) (sym (none_met f (source p x y) (pair p x y) s (product p.agreed.frame) e)) h
+
+  pub where_some : (s : State) (a : Result Array Halt) (m : Running) → 0 < product p.agreed.frame → Meets a m (on_pairs f (source p x y) s) → Meets a m (by_source f (source p x y) s)
+  where_some s a m l h =
+      let e : product p.agreed.frame ≡ suc (product p.agreed.frame - 1) = omega arith in
+      subst (Meets a m) (sym (some_met f (source p x y) (pair p x y) s (product p.agreed.frame) (product p.agreed.frame - 1) e)) h
+
 -- a plan that isn't made
-pub ranks_err : (r : Ranks) (f : Doing) (x : Option Array) (y : Array) (e : Halt) (m : Running) → IsPart {A = Planned} (planned_for r x y) (Err e) → Meets {A = Array} (Err e) m (by_ranks r f x y m.state)
+pub ranks_err : (r : Ranks) (f : Doing) (x : Option Array) (y : Array) (e : Fault) (s : State) → planned_for r x y ≡ Err e → by_ranks r f x y s ≡ Erred e s
 unfolding by_ranks
-ranks_err r f x y (halt.Failed e) m h = ap (λ p. by_plan p f x y m.state) h
-ranks_err r f x y halt.Spent m h = absurd h
-ranks_err r f x y halt.NoMemory m h = tt
+ranks_err r f x y e s h = ap (λ p. by_plan p f x y s) h
 
 -- a plan that is made
-pub ranks_ok : (r : Ranks) (f : Doing) (x : Option Array) (y : Array) (p : Planned) (a : Result Array Halt) (m : Running) (s : State) → planned_for r x y ≡ Ok p → Meets a m (by_count (product p.agreed.frame) f p x y s) → Meets a m (by_ranks r f x y s)
+pub ranks_ok : (r : Ranks) (f : Doing) (x : Option Array) (y : Array) (p : Planned) (a : Result Array Halt) (m : Running) (s : State) → planned_for r x y ≡ Ok p → Meets a m (by_source f (source p x y) s) → Meets a m (by_ranks r f x y s)
 unfolding by_ranks
 ranks_ok r f x y p a m s h g = subst (λ q. Meets a m (by_plan q f x y s)) (sym h) g
 

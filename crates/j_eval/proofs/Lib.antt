@@ -1,4 +1,9 @@
 pub mod Runs
+pub mod Stacks
+pub mod Patterns
+pub mod Shorter
 pub mod Sentences
+pub mod Bound
 pub mod Parts
 pub mod Cells
+pub mod Repeats

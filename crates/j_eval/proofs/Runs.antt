@@ -7,8 +7,8 @@ use Rattle.j_definitions.specs.Array.{Array}
 use Rattle.j_definitions.specs.declared.Fault.TheVariants.{Stack}
 use Rattle.j_entity.specs.Tree.{VerbTree}
 use Rattle.j_entity.specs.Heights.{verb_height}
-use Rattle.j_eval.specs.State.{State, Outcome, Gave, Erred, Spent, Run, counted, one_step, fail}
-use Rattle.j_eval.specs.ByRank.{Doing}
+use Rattle.j_verbs.specs.State.{State, Outcome, Gave, Erred, Spent, Run, counted, one_step, fail}
+use Rattle.j_verbs.specs.ByRank.{Doing}
 use Rattle.j_eval.specs.Applying.{apply, call, nested}
 use Rattle.j_eval.specs.Meets.{Running, Meets, MeetsAs}
 

@@ -1,5 +1,5 @@
 -- One turn of a sentence.
-use Rattle.std.proofs.Common.{◌≡◌, ℕ, zero, suc, ◌+◌, ◌-◌, ◌*◌, ◌<◌, ◌≤◌, List, [], ◌∷◌, ◌++◌, reverse, length, map, Bool, true, false, Some, None, Err, refl, sym, ap, ◌∙◌, subst, arith}
+use Rattle.std.proofs.Common.{◌≡◌, ℕ, zero, suc, ◌+◌, ◌-◌, ◌*◌, ◌<◌, List, [], ◌∷◌, ◌++◌, reverse, length, map, Bool, true, false, Some, None, Err, refl, sym, ap, ◌∙◌, subst, arith}
 use Rattle.std.proofs.lemmas.List.{reverse-append, nil_from_length, map-append}
 use Rattle.j_entity.specs.Tree.{WordTree}
 use Rattle.j_entity.specs.View.{word_of}
@@ -7,11 +7,9 @@ use Rattle.j_entity.specs.declared.entity.Item.{Item}
 use Rattle.j_eval.specs.declared.outcome.Halt.{Halt}
 use Rattle.j_eval.specs.declared.outcome.Halt.TheVariants as halt
 use Rattle.j_eval.specs.declared.stack.Row.{Row}
-use Rattle.j_eval.specs.State.{State, Outcome, Gave, then_do, ◌>>=◌, counted, one_step}
-use Rattle.j_eval.specs.declared.stack.EntryKind.{EntryKind}
-use Rattle.j_eval.specs.declared.stack.EntryKind.TheVariants as kind
+use Rattle.j_verbs.specs.State.{State, Outcome, Gave, then_do, ◌>>=◌, counted, one_step}
 use Rattle.j_eval.specs.Applying.{Calls}
-use Rattle.j_eval.specs.Table.{Slot, Start, Word, row_at, row_of, kind_of}
+use Rattle.j_eval.specs.Table.{Slot, Start, Word, row_of}
 use Rattle.j_eval.specs.Meaning.{Given, goes_on, next_slot, is_assignment, moved, finished, reduced, parsed, queue_of, sentence}
 use Rattle.j_eval.specs.Meets.{Running, Meets, MeetsAs, MeetsAt, given_of}
 use Rattle.j_eval.proofs.Runs.{ticked, counted_after, counted_err}
@@ -22,16 +20,16 @@ module _ (calls : Calls) (quiet : Bool) (queue : List Slot) (es : List Slot) (s 
   parsed_row zero r l e = absurd (omega arith)
   parsed_row (suc k) r l e =
       let n : k ≡ suc k - 1 = omega arith in
-      ap (λ o. goes_on o (λ r. counted (reduced calls r es >>= parsed k calls (is_assignment r) queue)) (next_slot queue (λ e queue s. parsed k calls quiet queue (moved s.names es e ∷ es) s) (finished quiet es)) s) e
+      ap (λ o. goes_on o (λ r. counted (reduced calls r es >>= parsed k calls (is_assignment r) queue)) (next_slot queue (λ e queue. moved es e >>= parsed k calls quiet queue) (finished quiet es)) s) e
       ∙ ap (λ n. counted (reduced calls r es >>= parsed n calls (is_assignment r) queue) s) n
 
   -- none matches
-  parsed_move : (bound : ℕ) → 0 < bound → row_of es ≡ None → parsed bound calls quiet queue es s ≡ next_slot queue (λ e queue s. parsed (bound - 1) calls quiet queue (moved s.names es e ∷ es) s) (finished quiet es) s
+  parsed_move : (bound : ℕ) → 0 < bound → row_of es ≡ None → parsed bound calls quiet queue es s ≡ next_slot queue (λ e queue. moved es e >>= parsed (bound - 1) calls quiet queue) (finished quiet es) s
   parsed_move zero l e = absurd (omega arith)
   parsed_move (suc k) l e =
       let n : k ≡ suc k - 1 = omega arith in
-      ap (λ o. goes_on o (λ r. counted (reduced calls r es >>= parsed k calls (is_assignment r) queue)) (next_slot queue (λ e queue s. parsed k calls quiet queue (moved s.names es e ∷ es) s) (finished quiet es)) s) e
-      ∙ ap (λ n. next_slot queue (λ e queue s. parsed n calls quiet queue (moved s.names es e ∷ es) s) (finished quiet es) s) n
+      ap (λ o. goes_on o (λ r. counted (reduced calls r es >>= parsed k calls (is_assignment r) queue)) (next_slot queue (λ e queue. moved es e >>= parsed k calls quiet queue) (finished quiet es)) s) e
+      ∙ ap (λ n. next_slot queue (λ e queue. moved es e >>= parsed n calls quiet queue) (finished quiet es) s) n
 
   pub reduce_more : (bound : ℕ) (r : Row) (es' : List Slot) (t t' : State) → 0 < bound → row_of es ≡ Some r → one_step s ≡ Gave tt t → reduced calls r es t ≡ Gave es' t' →
       parsed bound calls quiet queue es s ≡ parsed (bound - 1) calls (is_assignment r) queue es' t'
@@ -75,12 +73,25 @@ queue_item items rest i w p e =
 
 module _ (calls : Calls) (quiet : Bool) where
   -- the next word is moved
-  pub item_more : (started : Bool) (items rest : List Item) (i : Item) (w : WordTree) (es es' : List Slot) (s : State) (bound : ℕ) → started ≡ false → items ≡ rest ++ i ∷ [] → w ≡ word_of i → es' ≡ moved s.names es (Word w) ∷ es → 0 < bound → row_of es ≡ None →
+  item_turn : (items rest : List Item) (i : Item) (es : List Slot) (s : State) (bound : ℕ) → items ≡ rest ++ i ∷ [] → 0 < bound → row_of es ≡ None →
+      parsed bound calls quiet (queue_of (map word_of items)) es s ≡ then_do (moved es (Word (word_of i)) s) (parsed (bound - 1) calls quiet (queue_of (map word_of rest)))
+  item_turn items rest i es s bound p l n =
+      ap (λ queue. parsed bound calls quiet queue es s) (queue_item items rest i (word_of i) p refl) ∙ parsed_move calls quiet (Word (word_of i) ∷ queue_of (map word_of rest)) es s bound l n
+
+  pub item_more : (started : Bool) (items rest : List Item) (i : Item) (es es' : List Slot) (s : State) (bound : ℕ) → started ≡ false → items ≡ rest ++ i ∷ [] → moved es (Word (word_of i)) s ≡ Gave es' s → 0 < bound → row_of es ≡ None →
       parsed bound calls quiet (queue_rest started (map word_of items)) es s ≡ parsed (bound - 1) calls quiet (queue_rest started (map word_of rest)) es' s
-  item_more true items rest i w es es' s bound q p ew ees l n = absurd (cc)
-  item_more false items rest i w es es' s bound q p ew ees l n =
-      ap (λ queue. parsed bound calls quiet queue es s) (queue_item items rest i w p ew) ∙ parsed_move calls quiet (Word w ∷ queue_of (map word_of rest)) es s bound l n
-      ∙ ap (λ es. parsed (bound - 1) calls quiet (queue_of (map word_of rest)) es s) (sym ees)
+  item_more true items rest i es es' s bound q p h l n = absurd (cc)
+  item_more false items rest i es es' s bound q p h l n = item_turn items rest i es s bound p l n ∙ ap (λ o. then_do o (parsed (bound - 1) calls quiet (queue_of (map word_of rest)))) h
+
+  pub item_err : (started : Bool) (items rest : List Item) (i : Item) (es es' : List Slot) (e : Halt) (m : Running) (bound : ℕ) (o : Outcome Given) → started ≡ false → items ≡ rest ++ i ∷ [] → 0 < bound → row_of es ≡ None →
+      parsed bound calls quiet (queue_rest started (map word_of items)) es m.state ≡ o → MeetsAt {A = Unit {0}} es' (Err e) m (moved es (Word (word_of i)) m.state) → MeetsAs given_of (Err e) m o
+  item_err true items rest i es es' e m bound o q p l n w h = absurd (cc)
+  item_err false items rest i es es' e m bound o q p l n w h = subst (MeetsAs given_of (Err e) m) (sym (item_turn items rest i es m.state bound p l n) ∙ w) (err_at e h)
+    where
+      err_at : (e : Halt) → MeetsAt {A = Unit {0}} es' (Err e) m (moved es (Word (word_of i)) m.state) → MeetsAs given_of (Err e) m (then_do (moved es (Word (word_of i)) m.state) (parsed (bound - 1) calls quiet (queue_of (map word_of rest))))
+      err_at (halt.Failed f) h = ap (λ o. then_do o (parsed (bound - 1) calls quiet (queue_of (map word_of rest)))) h
+      err_at halt.Spent h = ap (λ o. then_do o (parsed (bound - 1) calls quiet (queue_of (map word_of rest)))) h
+      err_at halt.NoMemory h = tt
 
   -- the mark is moved
   pub mark_more : (started : Bool) (items : List Item) (es es' : List Slot) (s : State) (bound : ℕ) → started ≡ false → length items ≡ 0 → es' ≡ Start ∷ es → 0 < bound → row_of es ≡ None →
@@ -98,16 +109,6 @@ module _ (calls : Calls) (quiet : Bool) where
 -- the sentence is begun
 pub sentence_begun : (calls : Calls) (words : List WordTree) (s t : State) → one_step s ≡ Gave tt t → parsed (2 * length words + 3) calls false (queue_of words) [] t ≡ sentence calls words s
 sentence_begun calls words s t k = sym (counted_after s t (parsed (2 * length words + 3) calls false (queue_of words) []) (ticked s t k))
-
--- a row matches two entries at least
-alone : (k : EntryKind) → row_at k kind.Nothing kind.Nothing kind.Nothing ≡ None
-alone kind.Start = refl
-alone _ = refl
-
-pub row_long : (es : List Slot) (r : Row) → row_of es ≡ Some r → 2 ≤ length es
-row_long [] r e = let no : None ≡ Some r = e in absurd (cc)
-row_long (a ∷ []) r e = let no : None ≡ Some r = sym (alone (kind_of a)) ∙ e in absurd (cc)
-row_long (a ∷ b ∷ es) r e = omega arith
 
 -- while words are left the mark isn't moved
 pub still_open : (started : Bool) (items : List Item) → (started ≡ true → length items ≡ 0) → 0 < length items → started ≡ false

@@ -5,7 +5,7 @@ use Rattle.std.specs.FinMap as map
 use Rattle.j_names.specs.Coded.{coded_entity}
 use Rattle.j_names.specs.Names.{NameMap}
 use Rattle.j_eval.specs.Meets.{Readiness, ready, spent, exhausted, Running}
-use Rattle.j_eval.specs.State.{State}
+use Rattle.j_verbs.specs.State.{State}
 
 abbrev pub readiness_number : Readiness → ℕ
 readiness_number ready = 0
@@ -17,21 +17,22 @@ readiness_from zero = ready
 readiness_from (suc zero) = spent
 readiness_from (suc (suc n)) = exhausted
 
-abbrev pub running_code : Running → ℕ × (ℕ × (List ℕ × (NameMap × ℕ)))
-running_code m = (m.state.steps, (m.state.budget, (m.state.shown, (m.state.names, readiness_number m.readiness))))
+abbrev pub running_code : Running → ℕ × (ℕ × (List ℕ × (NameMap × (ℕ × ℕ))))
+running_code m = (m.state.steps, (m.state.budget, (m.state.shown, (m.state.names, (readiness_number m.readiness, m.asked)))))
 
-abbrev pub running_from : ℕ × (ℕ × (List ℕ × (NameMap × ℕ))) → Running
+abbrev pub running_from : ℕ × (ℕ × (List ℕ × (NameMap × (ℕ × ℕ)))) → Running
 running_from p = record {
   state = record { steps = p.0; budget = p.1.0; shown = p.1.1.0; names = p.1.1.1.0 };
-  readiness = readiness_from p.1.1.1.1;
+  readiness = readiness_from p.1.1.1.1.0;
+  asked = p.1.1.1.1.1;
 }
 
-pub running_back : (s : State) (r : Readiness) → running_from (running_code (record { state = s; readiness = r })) ≡ record { state = s; readiness = r }
-running_back s ready = refl
-running_back s spent = refl
-running_back s exhausted = refl
+pub running_back : (s : State) (r : Readiness) (n : ℕ) → running_from (running_code (record { state = s; readiness = r; asked = n })) ≡ record { state = s; readiness = r; asked = n }
+running_back s ready n = refl
+running_back s spent n = refl
+running_back s exhausted n = refl
 
 abbrev pub coded_running : Coded Running
 coded_running =
-    code_by (ℕ × (ℕ × (List ℕ × (NameMap × ℕ)))) (coded× coded_ℕ (coded× coded_ℕ (coded× (coded_list coded_ℕ) (coded× (map.code (coded_list coded_ℕ) coded_entity) coded_ℕ))))
-    running_code running_from (λ m. running_back m.state m.readiness)
+    code_by (ℕ × (ℕ × (List ℕ × (NameMap × (ℕ × ℕ))))) (coded× coded_ℕ (coded× coded_ℕ (coded× (coded_list coded_ℕ) (coded× (map.code (coded_list coded_ℕ) coded_entity) (coded× coded_ℕ coded_ℕ)))))
+    running_code running_from (λ m. running_back m.state m.readiness m.asked)

@@ -13,4 +13,5 @@ abbrev pub running_of : Inside → Running
 running_of m = record {
   state = record { steps = m.steps; budget = m.budget; shown = m.shown.items; names = m.names };
   readiness = readiness_of m.fitness;
+  asked = m.pool;
 }

@@ -1,11 +1,7 @@
 -- What the calls of a machine say of a run.
-use Rattle.std.specs.Prelude.{◌≡◌, Bool, ◌≤◌, ◌<◌, [], length, Result, Ok, Err}
-use Rattle.std.specs.declared.alloc.Global.{Global}
-use Rattle.std.specs.declared.vec.Vec.{Vec}
+use Rattle.std.specs.Prelude.{ℕ, ◌≡◌, Bool, ◌≤◌, [], Result, Ok, Err}
 use Rattle.j_definitions.specs.Array.{Array}
 use Rattle.j_definitions.specs.declared.Fault.{Fault}
-use Rattle.j_noun.specs.declared.refusal.Refusal.{Refusal}
-use Rattle.j_noun.specs.declared.refusal.Refusal.TheVariants as refusal
 use Rattle.j_entity.specs.Tree.{EntityTree}
 use Rattle.j_entity.specs.View.{entity_of}
 use Rattle.j_entity.specs.declared.entity.Entity.{Entity}
@@ -13,10 +9,8 @@ use Rattle.j_eval.specs.declared.outcome.Outcome.{Outcome as Answer}
 use Rattle.j_eval.specs.declared.outcome.Outcome.TheVariants as answer
 use Rattle.j_eval.specs.declared.outcome.Halt.{Halt}
 use Rattle.j_eval.specs.declared.outcome.Halt.TheVariants as halt
-use Rattle.j_eval.specs.declared.stack.Entry.{Entry}
-use Rattle.j_eval.specs.Stack.{Popped, stack_of}
 use Rattle.j_eval.specs.Meaning.{Given}
-use Rattle.j_eval.specs.State.{State, Outcome, Gave, Erred, Spent}
+use Rattle.j_verbs.specs.State.{State, Outcome, Gave, Erred, Spent}
 
 -- what a machine is fit for
 pub data Readiness : Type 0 where
@@ -24,10 +18,11 @@ pub data Readiness : Type 0 where
   spent : Readiness
   exhausted : Readiness
 
--- A machine: the state of its run, and whether it goes on.
+-- A machine: the state of its run, whether it goes on, and how much it has asked of its pool.
 pub record Running : Type 0 where
   pub state : State
   pub readiness : Readiness
+  pub asked : ℕ
 
 -- The answer and the machine are the outcome of the run. Want of memory may come in place of any answer, and then nothing is shown.
 abbrev pub Answers : Answer → Running → Outcome EntityTree → Type 0
@@ -38,7 +33,7 @@ Answers answer.NoMemory m o = (m.readiness ≡ exhausted) × (m.state.shown ≡ 
 
 -- the machine with nothing shown
 abbrev pub quiet : Running → Running
-quiet m = record { state = record { steps = m.state.steps; budget = m.state.budget; shown = []; names = m.state.names }; readiness = m.readiness }
+quiet m = record m { state = record m.state { shown = [] } }
 
 -- A machine that is spent or exhausted answers the same from then on, and shows nothing.
 abbrev pub Stays : Readiness → Answer → Running → Running → Type 0
@@ -51,7 +46,7 @@ abbrev pub AnswersCall : Result Array Halt → Running → Outcome Array → Typ
 AnswersCall (Ok y) m o = (o ≡ Gave y m.state) × (m.readiness ≡ ready)
 AnswersCall (Err (halt.Failed f)) m o = (o ≡ Erred f m.state) × (m.readiness ≡ ready)
 AnswersCall (Err halt.Spent) m o = (o ≡ Spent m.state) × (m.readiness ≡ spent)
-AnswersCall (Err halt.NoMemory) m o = m.readiness ≡ exhausted
+AnswersCall (Err halt.NoMemory) m o = (m.readiness ≡ exhausted) × (m.state.shown ≡ [])
 
 -- A call on a machine that is spent or exhausted answers the same, and changes nothing.
 abbrev pub StaysIn : Readiness → Result Array Halt → Running → Running → Type 0
@@ -73,24 +68,16 @@ Meets r m o = MeetsAs (λ a. a) r m o
 abbrev pub MeetsAt : {A B : Type 0} → B → Result A Halt → Running → Outcome B → Type 0
 MeetsAt b r m o = MeetsAs (λ _. b) r m o
 
--- The answer of a part of a run that doesn't look at the state. Want of memory may come in place of any answer.
-abbrev pub IsPart : {A : Type 0} → Result A Fault → Result A Halt → Type 0
-IsPart r (Ok a) = r ≡ Ok a
-IsPart r (Err (halt.Failed e)) = r ≡ Err e
-IsPart r (Err halt.Spent) = ⊥
-IsPart r (Err halt.NoMemory) = Unit {0}
-
--- a refusal, as why a run gives nothing
-abbrev pub halted : Result Array Refusal → Result Array Halt
-halted (Ok a) = Ok a
-halted (Err (refusal.Fault e)) = Err (halt.Failed e)
-halted (Err refusal.NoMemory) = Err halt.NoMemory
-
 -- Steps are only counted up, and within a sentence nothing is shown, the budget stays, and so does what the machine is fit for.
 pub record Onward (m n : Running) : Type 0 where
   pub steps : m.state.steps ≤ n.state.steps
   pub budget : n.state.budget ≡ m.state.budget
   pub shown : n.state.shown ≡ m.state.shown
+  pub readiness : n.readiness ≡ m.readiness
+
+-- The machine is as before, but for what it has asked of its pool.
+pub record Kept (m n : Running) : Type 0 where
+  pub state : n.state ≡ m.state
   pub readiness : n.readiness ≡ m.readiness
 
 -- what a sentence gives
@@ -102,12 +89,9 @@ abbrev pub NoMemoryOr : {A : Type 0} → Result A Halt → (A → Type 0) → Ty
 NoMemoryOr (Ok a) P = P a
 NoMemoryOr (Err e) P = e ≡ halt.NoMemory
 
--- what comes off a stack, seen by f, and the stack without it
-abbrev pub PopsAs : {A B : Type 0} → (A → B) → Result A Halt → Vec Entry Global → Vec Entry Global → Popped B → Type 0
-PopsAs f (Ok a) old new o = (o ≡ Ok (f a, stack_of new.items)) × (length new.items < length old.items)
-PopsAs f (Err (halt.Failed e)) old new o = o ≡ Err e
-PopsAs f (Err halt.Spent) old new o = ⊥
-PopsAs f (Err halt.NoMemory) old new o = ⊥
-
-abbrev pub Pops : {A : Type 0} → Result A Halt → Vec Entry Global → Vec Entry Global → Popped A → Type 0
-Pops r old new o = PopsAs (λ a. a) r old new o
+-- The answer of a part of a run that doesn't look at the state, seen by f. Want of memory may come in place of any answer.
+abbrev pub IsPartAs : {A B : Type 0} → (A → B) → Result B Fault → Result A Halt → Type 0
+IsPartAs f r (Ok a) = r ≡ Ok (f a)
+IsPartAs f r (Err (halt.Failed e)) = r ≡ Err e
+IsPartAs f r (Err halt.Spent) = ⊥
+IsPartAs f r (Err halt.NoMemory) = Unit {0}

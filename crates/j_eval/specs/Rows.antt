@@ -1,20 +1,24 @@
 -- Names for the sentences worked out by hand.
 use Rattle.std.specs.Prelude.{ℕ, ℤ, List, [], ◌∷◌, length, map as mapped}
 use Rattle.std.specs.FinMap as map
-use Rattle.j_definitions.specs.Array.{Array, number, atom_array}
-use Rattle.j_definitions.specs.declared.Kind.TheVariants.{Number}
+use Rattle.j_definitions.specs.Array.{Array, number, byte, atom_array}
+use Rattle.j_definitions.specs.declared.Kind.TheVariants.{Number, Character}
 use Rattle.j_leaves.specs.declared.primitive.Primitive.{Primitive}
 use Rattle.j_leaves.specs.declared.primitive.Primitive.TheVariants as p
+use Rattle.j_leaves.specs.declared.modifier.Modifier.{Modifier}
 use Rattle.j_leaves.specs.declared.modifier.Modifier.TheVariants as m
-use Rattle.j_names.specs.Names.{NameMap, assign}
-use Rattle.j_names.specs.Rows.{f}
-use Rattle.j_entity.specs.Tree.{EntityTree, WordTree, primitive, modifier, a_noun, a_verb, a_conjunction, entity}
-use Rattle.j_eval.specs.State.{State, Outcome, Gave}
+use Rattle.j_names.specs.Names.{NameMap}
+use Rattle.j_names.specs.Rows.{f, with}
+use Rattle.j_entity.specs.Tree.{EntityTree, WordTree, primitive, modifier, a_noun, a_verb, an_adverb, a_conjunction, entity}
+use Rattle.j_verbs.specs.State.{State, Outcome, Gave}
 use Rattle.j_eval.specs.Meaning.{top}
 
--- one number, and a list of numbers
+-- one number, one character, and a list of numbers
 abbrev pub atom : ℤ → Array
 atom n = atom_array Number (number n)
+
+abbrev pub character : ℕ → Array
+character b = atom_array Character (byte b)
 
 abbrev pub list : List ℤ → Array
 list ns = record { kind = Number; shape = length ns ∷ []; atoms = mapped number ns }
@@ -35,8 +39,14 @@ minus = verb p.Minus
 abbrev pub times : WordTree
 times = verb p.Times
 
+abbrev pub joining : Modifier → WordTree
+joining c = entity (a_conjunction (modifier c))
+
 abbrev pub at : WordTree
-at = entity (a_conjunction (modifier m.At))
+at = joining m.At
+
+abbrev pub swapped : WordTree
+swapped = entity (an_adverb (modifier m.Passive))
 
 -- so many steps counted of a hundred, and bytes shown
 abbrev pub after : ℕ → List ℕ → State
@@ -56,7 +66,7 @@ gave e steps shown = Gave e (after steps shown)
 
 -- the one name f holds this
 abbrev pub f_is : EntityTree → NameMap
-f_is e = assign map.empty f e
+f_is e = with f e map.empty
 
 -- so many steps counted of a hundred, bytes shown, and names
 abbrev pub knowing : NameMap → ℕ → List ℕ → State

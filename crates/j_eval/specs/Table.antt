@@ -1,5 +1,5 @@
 -- The parsing table: nine rows over the first four entries of the stack.
-use Rattle.std.specs.Prelude.{ℕ, zero, suc, ◌&&◌, ◌||◌, Bool, true, false, List, [], ◌∷◌, find, Option}
+use Rattle.std.specs.Prelude.{ℕ, zero, suc, ◌&&◌, ◌||◌, Bool, true, false, List, [], ◌∷◌, find, Option, Some, None}
 use Rattle.j_entity.specs.Tree.{EntityTree, WordTree, a_noun, a_verb, an_adverb, a_conjunction, entity, ranks_word, name, local_copula, global_copula, open_mark, close_mark}
 use Rattle.j_eval.specs.declared.stack.EntryKind.{EntryKind}
 use Rattle.j_eval.specs.declared.stack.EntryKind.TheVariants as kind
@@ -31,11 +31,19 @@ abbrev pub kind_of : Slot → EntryKind
 kind_of Start = kind.Start
 kind_of (Word w) = word_kind w
 
--- the kind of an entry, the leftmost being the first
+-- the entry at a place, the leftmost being the first
+abbrev pub slot_at : List Slot → ℕ → Option Slot
+slot_at [] k = None
+slot_at (e ∷ es) zero = Some e
+slot_at (e ∷ es) (suc k) = slot_at es k
+
+abbrev pub slot_kind : Option Slot → EntryKind
+slot_kind None = kind.Nothing
+slot_kind (Some e) = kind_of e
+
+-- the kind of the entry at a place
 abbrev pub kind_at : List Slot → ℕ → EntryKind
-kind_at [] k = kind.Nothing
-kind_at (e ∷ es) zero = kind_of e
-kind_at (e ∷ es) (suc k) = kind_at es k
+kind_at es k = slot_kind (slot_at es k)
 
 abbrev pub is_start : EntryKind → Bool
 is_start kind.Start = true

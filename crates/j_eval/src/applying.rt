@@ -1,28 +1,18 @@
 // The application of verbs.
-ghost use Rattle.std.specs.Prelude.{◌≡◌, ◌≤◌, ◌+◌, MatchOption};
+ghost use Rattle.std.specs.Prelude.{◌≡◌, ◌≤◌, ◌+◌, Some, None, IfSome, MatchOption};
 ghost use Rattle.std.specs.Option.{option_copied};
-ghost use Rattle.j_entity.specs.Tree.{fork, noun_fork, hook, derived2};
-ghost use Rattle.j_entity.specs.View.{operand_of};
 ghost use Rattle.j_entity.specs.Heights.{verb_height};
-ghost use Rattle.j_eval.specs.Applying.{apply, call, nested};
-ghost use Rattle.j_eval.specs.Meets.{Meets, Onward, halted};
+ghost use Rattle.j_entity.specs.View.{operand_of};
+ghost use Rattle.j_eval.specs.Applying.{Calls, apply, call, cell, does, named_cell, nested};
+ghost use Rattle.j_eval.specs.Meets.{Kept, Meets, Onward};
+ghost use Rattle.j_verbs.specs.Words.{word};
 
 use crate::machine::Machine;
-use crate::outcome::Halt;
-use crate::words::{is_cap, word};
-use j_entity::{Modifier, Operand, Tree, Verb};
-use j_noun::{Fault, Noun, Refusal};
-
-// What a verb answers, as a part of a run.
-pub fn answered(answer: Result<Noun, Refusal>) -> Result<Noun, Halt>
-    ensures { result ≡ halted answer }
-{
-    match answer {
-        Ok(y) => Ok(y),
-        Err(Refusal::Fault(fault)) => Err(Halt::Failed(fault)),
-        Err(Refusal::NoMemory) => Err(Halt::NoMemory),
-    }
-}
+use crate::outcome::{Halt, or_halt};
+use j_entity::{Operand, Primitive, Tree, Verb};
+use j_leaves::Name;
+use j_noun::{Fault, Noun};
+use j_rank::{are_whole, is_whole};
 
 // The levels left in a call of a verb, where there are enough.
 fn levels_below(room: u32, v: &Verb) -> Option<u32>
@@ -33,6 +23,41 @@ fn levels_below(room: u32, v: &Verb) -> Option<u32>
 }
 
 impl Machine {
+    // A word on one cell or two.
+    #[tactic(auto, using(crate::proofs::Parts::gives_meets))]
+    fn word(&mut self, p: Primitive, x: Option<&Noun>, y: &Noun) -> Result<Noun, Halt>
+        ensures gives { Meets result self.new (word p (option_copied x.entry) y.now self.old.state) }
+        ensures onward { Onward self.old self.new }
+    {
+        or_halt(j_verbs::cell(&mut self.pool, p, x, y))
+    }
+
+    // What a word gives on all its cells at once, where it is served so.
+    #[tactic(auto, unfolding(crate::specs::Applying::apply), using(crate::proofs::Parts::gives_meets))]
+    fn whole(&mut self, v: &Verb, x: Option<&Noun>, y: &Noun) -> Option<Result<Noun, Halt>>
+        ensures gives { IfSome result (λ a. (calls : Calls) → Meets a self.new (apply calls v.now (option_copied x.entry) y.now self.old.state)) }
+        ensures kept { Kept self.old self.new }
+    {
+        match v.tree() {
+            Tree::Primitive(p) => Some(or_halt(j_verbs::whole(
+                &mut self.pool,
+                p,
+                v.ranks(),
+                x,
+                y,
+            )?)),
+            Tree::Named(_, _)
+            | Tree::Fork(_, _, _)
+            | Tree::NounFork(_, _, _)
+            | Tree::Hook(_, _)
+            | Tree::Derived(_, _)
+            | Tree::Derived2(_, _, _)
+            | Tree::Explicit(_)
+            | Tree::Explicit1(_, _)
+            | Tree::Explicit2(_, _, _) => None,
+        }
+    }
+
     /// A call of a verb where `room` levels are left.
     #[cycle(eval)]
     #[tactic(auto, using(crate::proofs::Runs::stack_call))]
@@ -54,72 +79,99 @@ impl Machine {
 
     // A verb inside a call, where `room` levels are left for further calls.
     #[cycle(eval)]
-    fn apply(&mut self, room: u32, v: &Verb, x: Option<&Noun>, y: &Noun) -> Result<Noun, Halt>
+    pub(crate) fn apply(
+        &mut self,
+        room: u32,
+        v: &Verb,
+        x: Option<&Noun>,
+        y: &Noun,
+    ) -> Result<Noun, Halt>
         ensures gives { Meets result self.new (apply (nested room) v.now (option_copied x.entry) y.now self.old.state) }
         ensures onward { Onward self.old self.new }
     {
+        match self.whole(v, x, y) {
+            Some(answer) => answer,
+            None => self.by_ranks(room, v, x, y),
+        }
+    }
+
+    // What a verb does on each cell, by its ranks.
+    #[cycle(eval)]
+    #[tactic(auto, unfolding(crate::specs::Applying::apply))]
+    fn by_ranks(&mut self, room: u32, v: &Verb, x: Option<&Noun>, y: &Noun) -> Result<Noun, Halt>
+        ensures gives { Meets result self.new (apply (nested room) v.now (option_copied x.entry) y.now self.old.state) }
+        ensures onward { Onward self.old self.new }
+    {
+        let r = v.ranks();
+        match x {
+            Some(left) if !are_whole(r.left, r.right, left, y) => self.by_cells(room, v, r, x, y),
+            None if !is_whole(r.monad, y) => self.by_cells(room, v, r, x, y),
+            _ => self.on_whole(room, v, r, x, y),
+        }
+    }
+
+    // What a verb does on one cell or two.
+    #[cycle(eval)]
+    #[tactic(auto, unfolding(crate::specs::Applying::apply))]
+    pub(crate) fn cell(
+        &mut self,
+        room: u32,
+        v: &Verb,
+        x: Option<&Noun>,
+        y: &Noun,
+    ) -> Result<Noun, Halt>
+        ensures gives { Meets result self.new (cell (nested room) v.now (option_copied x.entry) y.now self.old.state) }
+        ensures onward { Onward self.old self.new }
+    {
         match v.tree() {
-            Tree::Primitive(v) => answered(word(self.alloc(), v, x, y)),
-            Tree::Named(name, r) => self.by_ranks(room, name, r, x, y),
+            Tree::Primitive(p) => self.word(p, x, y),
+            Tree::Named(name, _) => self.named_cell(room, name, x, y),
             Tree::Fork(f, g, h) => self.fork(room, f, g, h, x, y),
-            Tree::NounFork(n, g, h) => {
-                let right = self.apply(room, h, x, y)?;
-                self.apply(room, g, Some(n), &right)
-            }
-            Tree::Hook(g, h) => {
-                let right = self.apply(room, h, None, y)?;
-                self.apply(room, g, Some(x.unwrap_or(y)), &right)
-            }
-            Tree::Derived(_, _) => Err(Halt::Failed(Fault::Domain)),
-            Tree::Derived2(c, u, v) => self.derived(room, c, u, v, x, y),
+            Tree::NounFork(n, g, h) => self.noun_fork(room, n, g, h, x, y),
+            Tree::Hook(g, h) => self.hook(room, g, h, x, y),
+            Tree::Derived(m, u) => self.adverb(room, m, u, x, y),
+            Tree::Derived2(m, u, v) => self.conjunction(room, m, u, v, x, y),
             Tree::Explicit(_) | Tree::Explicit1(_, _) | Tree::Explicit2(_, _, _) => Err(
                 Halt::Failed(Fault::Nonce),
             ),
         }
     }
 
-    // A fork of verbs; `[:` on its left leaves one part.
+    // What an operand does as a verb.
     #[cycle(eval)]
-    fn fork(
+    #[tactic(auto, unfolding(crate::specs::Applying::apply))]
+    pub(crate) fn does(
         &mut self,
         room: u32,
-        f: &Verb,
-        g: &Verb,
-        h: &Verb,
+        u: &Operand,
         x: Option<&Noun>,
         y: &Noun,
     ) -> Result<Noun, Halt>
-        ensures gives { Meets result self.new (apply (nested room) (fork f.now g.now h.now) (option_copied x.entry) y.now self.old.state) }
+        ensures gives { Meets result self.new (does (nested room) (operand_of u.now) (option_copied x.entry) y.now self.old.state) }
         ensures onward { Onward self.old self.new }
     {
-        let right = self.apply(room, h, x, y)?;
-        if is_cap(f) {
-            return self.apply(room, g, None, &right);
+        match u {
+            Operand::Verb(v) => self.apply(room, v, x, y),
+            Operand::Noun(_) | Operand::Ranks(_) => Err(Halt::Failed(Fault::Domain)),
         }
-        let left = self.apply(room, f, x, y)?;
-        self.apply(room, g, Some(&left), &right)
     }
 
-    // A verb that a conjunction made.
+    // A name on one cell or two: a step, and a call of the verb that the name holds then.
     #[cycle(eval)]
-    fn derived(
+    fn named_cell(
         &mut self,
         room: u32,
-        c: Modifier,
-        u: &Operand,
-        v: &Operand,
+        name: &Name,
         x: Option<&Noun>,
         y: &Noun,
     ) -> Result<Noun, Halt>
-        ensures gives { Meets result self.new (apply (nested room) (derived2 c (operand_of u.now) (operand_of v.now)) (option_copied x.entry) y.now self.old.state) }
+        ensures gives { Meets result self.new (named_cell (nested room) name.now (option_copied x.entry) y.now self.old.state) }
         ensures onward { Onward self.old self.new }
     {
-        match (c, u, v) {
-            (Modifier::At, Operand::Verb(u), Operand::Verb(v)) => {
-                let right = self.apply(room, v, x, y)?;
-                self.apply(room, u, None, &right)
-            }
-            _ => Err(Halt::Failed(Fault::Domain)),
-        }
+        self.tick()?;
+        let v = self.verb_named(name)?;
+        let answer = self.call(room, &v, x, y);
+        drop(v);
+        answer
     }
 }

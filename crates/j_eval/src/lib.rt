@@ -1,17 +1,21 @@
-//! Evaluates sentences: words, trains and `@:` over number lists.
+//! Evaluates sentences: words, trains, names, and the verbs that modifiers make.
 #![tactic(auto)]
 
 mod applying;
 mod by_rank;
+mod compositions;
 mod machine;
+mod modifiers;
 mod outcome;
+mod powers;
+mod ranked;
 mod rows;
 mod sentence;
 mod stack;
-mod words;
+mod trains;
 
 pub use j_entity::{Entity, Prepared};
 pub use j_explicit::{LineFault, prepare};
 pub use machine::Machine;
 pub use outcome::{Halt, Outcome};
-pub use rows::{name_rows, table_rows, worked_rows};
+pub use rows::{modifier_rows, name_rows, parsing_laws, power_rows, table_rows, worked_rows};

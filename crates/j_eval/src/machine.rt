@@ -5,9 +5,9 @@ ghost use Rattle.std.specs.Option.{option_copied};
 ghost use Rattle.j_definitions.specs.Array.{Array};
 ghost use Rattle.j_entity.specs.Tree.{EntityTree};
 ghost use Rattle.j_entity.specs.View.{entity_of, word_of};
-ghost use Rattle.j_names.specs.Names.{look};
-ghost use Rattle.j_eval.specs.State.{Outcome as OutcomeOf, one_step, set_name};
-ghost use Rattle.j_eval.specs.Applying.{call, nested, verb_named};
+ghost use Rattle.j_eval.specs.Names.{found, set_name, verb_named};
+ghost use Rattle.j_eval.specs.Applying.{call, nested};
+ghost use Rattle.j_verbs.specs.State.{Outcome as OutcomeOf, one_step};
 ghost use Rattle.j_eval.specs.Meaning.{top, show, show_unless, executed, most_levels};
 ghost use Rattle.j_eval.specs.Meets.{Running, Answers, AnswersCall, Stays, StaysIn, Meets, MeetsAs, Onward, ready};
 
@@ -16,7 +16,7 @@ use j_display as display;
 use j_entity::{Entity, Item, Prepared, Verb};
 use j_leaves::Name;
 use j_names::Names;
-use j_noun::{Fault, NoMemory, Noun, Refusal};
+use j_noun::{Fault, NoMemory, Noun, Pool};
 use std::alloc::Global;
 use std::marker::Model;
 
@@ -40,7 +40,7 @@ enum Fitness {
 /// Evaluates sentences one after another, and counts their steps.
 #[derive(Drop)]
 pub struct Machine {
-    alloc: Global,
+    pub(crate) pool: Pool,
     budget: u64,
     steps: u64,
     fitness: Fitness,
@@ -64,11 +64,11 @@ impl Model for Machine {
 impl Machine {
     /// A machine that has counted no step and may count `budget` of them.
     pub fn new(alloc: Global, budget: u64) -> Result<Machine, NoMemory>
-        ensures { IfOk result (λ m. m ≡ record { state = record { steps = 0; budget = budget; shown = []; names = map.empty }; readiness = ready }) }
+        ensures { IfOk result (λ m. m ≡ record { state = record { steps = 0; budget = budget; shown = []; names = map.empty }; readiness = ready; asked = 0 }) }
     {
         let names = Names::new(alloc)?;
         Ok(Machine {
-            alloc,
+            pool: Pool::new(alloc),
             budget,
             steps: 0,
             fitness: Fitness::Ready,
@@ -82,6 +82,13 @@ impl Machine {
         ensures { result ≡ self.now.state.steps }
     {
         self.steps
+    }
+
+    /// The number of elements of buffers asked for, or 2^64-1 where there were more.
+    pub fn asked(&self) -> u64
+        ensures { result ≡ self.now.asked }
+    {
+        self.pool.asked()
     }
 
     /// What was shown since the last `sentence` began.
@@ -134,6 +141,7 @@ impl Machine {
     pub fn apply_monad(&mut self, v: &Verb, y: &Noun) -> Result<Noun, Halt>
         ensures answer { self.old.readiness ≡ ready → AnswersCall result self.new (call (nested most_levels) v.now None y.now self.old.state) }
         ensures stays { StaysIn self.old.readiness result self.old self.new }
+        ensures budget { self.new.state.budget ≡ self.old.state.budget }
     {
         self.apply_to(v, None, y)
     }
@@ -142,6 +150,7 @@ impl Machine {
     pub fn apply_dyad(&mut self, v: &Verb, x: &Noun, y: &Noun) -> Result<Noun, Halt>
         ensures answer { self.old.readiness ≡ ready → AnswersCall result self.new (call (nested most_levels) v.now (Some x.now) y.now self.old.state) }
         ensures stays { StaysIn self.old.readiness result self.old self.new }
+        ensures budget { self.new.state.budget ≡ self.old.state.budget }
     {
         self.apply_to(v, Some(x), y)
     }
@@ -150,6 +159,7 @@ impl Machine {
     fn apply_to(&mut self, v: &Verb, x: Option<&Noun>, y: &Noun) -> Result<Noun, Halt>
         ensures answer { self.old.readiness ≡ ready → AnswersCall result self.new (call (nested most_levels) v.now (option_copied x.entry) y.now self.old.state) }
         ensures stays { StaysIn self.old.readiness result self.old self.new }
+        ensures budget { self.new.state.budget ≡ self.old.state.budget }
     {
         match self.fitness {
             Fitness::Ready => {
@@ -164,11 +174,15 @@ impl Machine {
     // What a call answers, and what that leaves the machine fit for.
     fn settle_call(&mut self, answer: Result<Noun, Halt>) -> Result<Noun, Halt>
         requires { self.old.readiness ≡ ready }
-        ensures { (o : OutcomeOf Array) → Meets answer self.old o → AnswersCall result self.new o }
+        ensures answer { (o : OutcomeOf Array) → Meets answer self.old o → AnswersCall result self.new o }
+        ensures budget { self.new.state.budget ≡ self.old.state.budget }
     {
         match answer {
             Err(Halt::Spent) => self.fitness = Fitness::Spent,
-            Err(Halt::NoMemory) => self.fitness = Fitness::Exhausted,
+            Err(Halt::NoMemory) => {
+                self.fitness = Fitness::Exhausted;
+                self.shown.clear();
+            }
             _ => {}
         }
         answer
@@ -197,21 +211,21 @@ impl Machine {
     }
 
     pub(crate) fn alloc(&self) -> Global {
-        self.alloc
+        self.pool.alloc()
     }
 
     // What a name holds.
-    pub(crate) fn held(&self, name: &Name) -> Option<&Entity>
-        ensures { option_map (λ e. entity_of e.now) result ≡ look self.now.state.names name.now }
+    pub(crate) fn found(&self, name: &Name) -> Result<Option<&Entity>, Halt>
+        ensures { MeetsAs (λ o. option_map (λ e. entity_of e.now) o) result self.now (found name.now self.now.state) }
     {
-        self.names.get(name)
+        Ok(self.names.get(name)?)
     }
 
     // The verb that a name holds.
     pub(crate) fn verb_named(&self, name: &Name) -> Result<Verb, Halt>
         ensures { Meets result self.now (verb_named name.now self.now.state) }
     {
-        match self.held(name) {
+        match self.found(name)? {
             Some(Entity::Verb(v)) => Ok(v.duplicate()?),
             Some(Entity::Noun(_) | Entity::Adverb(_) | Entity::Conjunction(_)) | None => {
                 Err(Halt::Failed(Fault::Value))
@@ -219,9 +233,10 @@ impl Machine {
         }
     }
 
-    // Gives a name what it holds.
-    pub(crate) fn set_name(&mut self, name: Name, e: Entity) -> Result<(), Halt>
-        ensures gives { Meets result self.new (set_name name (entity_of e) self.old.state) }
+    // Gives a name what it holds, by `=.` or by `=:`, which do the same where there are no locals.
+    #[tactic(auto, using(crate::proofs::Parts::set_err, crate::proofs::Parts::set_ok))]
+    pub(crate) fn set_name(&mut self, _local: bool, name: Name, e: Entity) -> Result<(), Halt>
+        ensures gives { Meets result self.new (set_name _local name (entity_of e) self.old.state) }
         ensures onward { Onward self.old self.new }
     {
         Ok(self.names.set(name, e)?)
@@ -248,10 +263,6 @@ impl Machine {
         ensures readiness { self.new.readiness ≡ self.old.readiness }
     {
         let room = MOST_SHOWN - self.shown.len();
-        match display::show(e, room, &mut self.shown) {
-            Ok(()) => Ok(()),
-            Err(Refusal::Fault(fault)) => Err(Halt::Failed(fault)),
-            Err(Refusal::NoMemory) => Err(Halt::NoMemory),
-        }
+        Ok(display::show(&mut self.pool, e, room, &mut self.shown)?)
     }
 }

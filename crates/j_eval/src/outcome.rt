@@ -1,9 +1,10 @@
 // What a run answers.
 ghost use Rattle.std.specs.Prelude.{◌≡◌};
-ghost use Rattle.j_eval.specs.declared.outcome.Halt.TheVariants.{NoMemory as HaltMemory};
+ghost use Rattle.j_eval.specs.declared.outcome.Halt.TheVariants.{Failed as HaltFailed, NoMemory as HaltMemory};
+ghost use Rattle.j_eval.specs.Halting.{halt_of, halted};
 
 use j_entity::Entity;
-use j_noun::{Fault, NoMemory};
+use j_noun::{Fault, NoMemory, Noun, Refusal};
 
 /// What a top sentence answers.
 #[derive(Drop)]
@@ -28,4 +29,30 @@ impl From<NoMemory> for Halt {
     fn from(_e: NoMemory) -> Halt {
         Halt::NoMemory
     }
+}
+
+impl From<Refusal> for Halt {
+    ghost from_gives = { λ r h. h ≡ halt_of r };
+
+    fn from(r: Refusal) -> Halt {
+        match r {
+            Refusal::Fault(fault) => Halt::Failed(fault),
+            Refusal::NoMemory => Halt::NoMemory,
+        }
+    }
+}
+
+impl From<Fault> for Halt {
+    ghost from_gives = { λ f h. h ≡ HaltFailed f };
+
+    fn from(fault: Fault) -> Halt {
+        Halt::Failed(fault)
+    }
+}
+
+/// What a call answers, as a part of a run.
+pub fn or_halt(answer: Result<Noun, Refusal>) -> Result<Noun, Halt>
+    ensures { result ≡ halted answer }
+{
+    Ok(answer?)
 }

@@ -1,19 +1,23 @@
 // Sentences worked out by hand.
-ghost use Rattle.std.specs.Prelude.{◌≡◌, ◌++◌, ◌∷◌, [], Some, None, codes, pos, negsuc};
+ghost use Rattle.std.specs.Prelude.{◌≡◌, ◌++◌, ◌∷◌, [], Ok, Some, None, codes, pos, negsuc};
 ghost use Rattle.j_definitions.specs.declared.Fault.TheVariants as fault;
 ghost use Rattle.j_leaves.specs.declared.primitive.Primitive.TheVariants as p;
+ghost use Rattle.j_leaves.specs.declared.modifier.Modifier.TheVariants as m;
+ghost use Rattle.j_noun.specs.declared.ranks.RankPart.TheVariants.{Infinite};
 ghost use Rattle.j_names.specs.Names.{NameMap, look};
-ghost use Rattle.j_names.specs.Rows.{f};
+ghost use Rattle.j_names.specs.Rows.{f, f_in_g};
 ghost use Rattle.j_entity.specs.Ranks.{endless, of, same};
-ghost use Rattle.j_entity.specs.Tree.{primitive, named, hook, a_noun, a_verb, name, open_mark, close_mark, local_copula, global_copula};
+ghost use Rattle.j_entity.specs.Tree.{primitive, named, hook, derived, derived2, a_noun, a_verb, name, ranks_word, open_mark, close_mark, local_copula, global_copula};
+ghost use Rattle.j_entity.specs.Tree as operand;
 ghost use Rattle.j_eval.specs.declared.stack.EntryKind.{EntryKind};
 ghost use Rattle.j_eval.specs.declared.stack.EntryKind.TheVariants as kind;
 ghost use Rattle.j_eval.specs.declared.stack.Row.TheVariants as row;
-ghost use Rattle.j_eval.specs.State.{State, Gave, Erred, Spent};
+ghost use Rattle.j_verbs.specs.State.{State, Gave, Erred, Spent};
 ghost use Rattle.j_eval.specs.Applying.{call, nested};
 ghost use Rattle.j_eval.specs.Table.{row_at};
 ghost use Rattle.j_eval.specs.Meaning.{top};
-ghost use Rattle.j_eval.specs.Rows.{atom, list, noun, verb, plus, minus, times, at, within, after, knowing, f_is, top_of, gave};
+ghost use Rattle.j_eval.specs.Laws.{BoundIsEnough};
+ghost use Rattle.j_eval.specs.Rows.{atom, character, list, noun, verb, plus, minus, times, at, joining, swapped, within, after, knowing, f_is, top_of, gave};
 
 /// Laws: which row four entries match, worked out by hand.
 pub fn table_rows()
@@ -57,6 +61,44 @@ pub fn worked_rows()
     ensures too_few_levels { (s : State) → call (nested 1) (hook (primitive p.Plus) (primitive p.Times)) None (atom (pos 3)) s ≡ Erred fault.Stack s }
 {}
 
+/// Laws: verbs that modifiers make, worked out by hand, with their steps.
+pub fn modifier_rows()
+    ensures atop { top_of (verb p.Three ∷ joining m.Atop ∷ plus ∷ noun (list (pos 1 ∷ pos 2 ∷ [])) ∷ []) ≡ gave (a_noun (list (pos 3 ∷ pos 3 ∷ []))) 3 (codes "3 3" ++ 10 ∷ []) }
+    ensures at { top_of (verb p.Three ∷ at ∷ plus ∷ noun (list (pos 1 ∷ pos 2 ∷ [])) ∷ []) ≡ gave (a_noun (atom (pos 3))) 3 (codes "3" ++ 10 ∷ []) }
+    ensures over { top_of (noun (atom (pos 5)) ∷ minus ∷ joining m.Bond ∷ verb p.Double ∷ noun (atom (pos 3)) ∷ []) ≡ gave (a_noun (atom (pos 4))) 3 (codes "4" ++ 10 ∷ []) }
+    ensures over_one { top_of (minus ∷ joining m.Bond ∷ verb p.Double ∷ noun (atom (pos 3)) ∷ []) ≡ gave (a_noun (atom (negsuc 5))) 3 (codes "_6" ++ 10 ∷ []) }
+    ensures over_cells { top_of (verb p.Three ∷ joining m.Bond ∷ minus ∷ noun (list (pos 1 ∷ pos 2 ∷ [])) ∷ []) ≡ gave (a_noun (list (pos 3 ∷ pos 3 ∷ []))) 3 (codes "3 3" ++ 10 ∷ []) }
+    ensures appose { top_of (verb p.Three ∷ joining m.Appose ∷ minus ∷ noun (list (pos 1 ∷ pos 2 ∷ [])) ∷ []) ≡ gave (a_noun (atom (pos 3))) 3 (codes "3" ++ 10 ∷ []) }
+    ensures right_part_first { top_of (noun (character 97) ∷ minus ∷ joining m.Bond ∷ verb p.Divide ∷ noun (atom (pos 2)) ∷ []) ≡ Erred fault.Quotient (after 3 []) }
+    ensures left_bound { top_of (noun (atom (pos 2)) ∷ joining m.Bond ∷ minus ∷ noun (atom (pos 5)) ∷ []) ≡ gave (a_noun (atom (negsuc 2))) 3 (codes "_3" ++ 10 ∷ []) }
+    ensures right_bound { top_of (minus ∷ joining m.Bond ∷ noun (atom (pos 2)) ∷ verb p.Right ∷ noun (atom (pos 5)) ∷ []) ≡ gave (a_noun (atom (pos 3))) 4 (codes "3" ++ 10 ∷ []) }
+    ensures bound_to_two { top_of (noun (atom (pos 1)) ∷ open_mark ∷ noun (atom (pos 2)) ∷ joining m.Bond ∷ times ∷ close_mark ∷ noun (atom (pos 5)) ∷ []) ≡ Erred fault.Nonce (after 4 []) }
+    ensures on_both_sides { top_of (plus ∷ swapped ∷ noun (atom (pos 3)) ∷ []) ≡ gave (a_noun (atom (pos 6))) 3 (codes "6" ++ 10 ∷ []) }
+    ensures swapped { top_of (noun (atom (pos 2)) ∷ minus ∷ swapped ∷ noun (atom (pos 5)) ∷ []) ≡ gave (a_noun (atom (pos 3))) 3 (codes "3" ++ 10 ∷ []) }
+    ensures noun_for_each { top_of (noun (atom (pos 7)) ∷ joining m.Rank ∷ noun (atom (pos 0)) ∷ verb p.Right ∷ noun (list (pos 1 ∷ pos 2 ∷ [])) ∷ []) ≡ gave (a_noun (list (pos 7 ∷ pos 7 ∷ []))) 4 (codes "7 7" ++ 10 ∷ []) }
+    ensures noun_for_all { top_of (noun (atom (pos 7)) ∷ joining m.Rank ∷ ranks_word (Infinite ∷ []) ∷ verb p.Right ∷ noun (list (pos 1 ∷ pos 2 ∷ [])) ∷ []) ≡ gave (a_noun (atom (pos 7))) 4 (codes "7" ++ 10 ∷ []) }
+    ensures unlike_frames { top_of (noun (list (pos 1 ∷ pos 2 ∷ [])) ∷ plus ∷ joining m.Rank ∷ noun (atom (pos 0)) ∷ verb p.Right ∷ noun (list (pos 1 ∷ pos 2 ∷ pos 3 ∷ [])) ∷ []) ≡ Erred fault.Length (after 4 []) }
+{}
+
+/// Laws: a verb time after time, worked out by hand, with its steps.
+pub fn power_rows()
+    ensures three_times { top_of (verb p.Double ∷ joining m.PowerOf ∷ noun (atom (pos 3)) ∷ verb p.Right ∷ noun (atom (pos 1)) ∷ []) ≡ gave (a_noun (atom (pos 8))) 7 (codes "8" ++ 10 ∷ []) }
+    ensures with_left { top_of (noun (atom (pos 2)) ∷ plus ∷ joining m.PowerOf ∷ noun (atom (pos 3)) ∷ verb p.Right ∷ noun (atom (pos 1)) ∷ []) ≡ gave (a_noun (atom (pos 7))) 7 (codes "7" ++ 10 ∷ []) }
+    ensures no_time { top_of (verb p.Double ∷ joining m.PowerOf ∷ noun (atom (pos 0)) ∷ verb p.Right ∷ noun (atom (pos 5)) ∷ []) ≡ gave (a_noun (atom (pos 5))) 4 (codes "5" ++ 10 ∷ []) }
+    ensures until_same { top_of (noun (atom (pos 0)) ∷ joining m.Bond ∷ times ∷ joining m.PowerOf ∷ ranks_word (Infinite ∷ []) ∷ verb p.Right ∷ noun (atom (pos 5)) ∷ []) ≡ gave (a_noun (atom (pos 0))) 7 (codes "0" ++ 10 ∷ []) }
+    ensures same_at_once { top_of (verb p.Right ∷ joining m.PowerOf ∷ ranks_word (Infinite ∷ []) ∷ verb p.Right ∷ noun (atom (pos 5)) ∷ []) ≡ gave (a_noun (atom (pos 5))) 5 (codes "5" ++ 10 ∷ []) }
+    ensures spent { top (verb p.Double ∷ joining m.PowerOf ∷ noun (atom (pos 3)) ∷ verb p.Right ∷ noun (atom (pos 1)) ∷ []) (within 6 0) ≡ Spent (within 6 6) }
+    ensures spent_without_end { top (verb p.GreaterEqual ∷ joining m.PowerOf ∷ ranks_word (Infinite ∷ []) ∷ verb p.Right ∷ noun (atom (pos 1)) ∷ []) (within 9 0) ≡ Spent (within 9 9) }
+    ensures as_a_verb_says { top_of (verb p.Double ∷ joining m.PowerOf ∷ verb p.Two ∷ verb p.Right ∷ noun (atom (pos 5)) ∷ []) ≡ gave (a_noun (atom (pos 20))) 6 (codes "20" ++ 10 ∷ []) }
+    ensures says_no_number { top_of (verb p.Double ∷ joining m.PowerOf ∷ verb p.Right ∷ noun (character 97) ∷ []) ≡ Erred fault.Domain (after 3 []) }
+    ensures says_a_list { top_of (verb p.Double ∷ joining m.PowerOf ∷ verb p.Right ∷ noun (list (pos 1 ∷ pos 2 ∷ [])) ∷ []) ≡ Erred fault.Rank (after 3 []) }
+    ensures says_less_than_none { top_of (verb p.Double ∷ joining m.PowerOf ∷ verb p.Right ∷ noun (atom (negsuc 0)) ∷ []) ≡ Erred fault.Nonce (after 3 []) }
+    ensures fault_of_a_time { top_of (minus ∷ joining m.PowerOf ∷ noun (atom (pos 3)) ∷ verb p.Right ∷ noun (character 97) ∷ []) ≡ Erred fault.Domain (after 5 []) }
+    ensures no_ranks { (s : State) → call (nested 9) (derived2 m.Rank (operand.verb (primitive p.Plus)) (operand.noun (character 97))) None (atom (pos 1)) s ≡ Erred fault.Domain s }
+    ensures no_count { (s : State) → call (nested 9) (derived2 m.PowerOf (operand.verb (primitive p.Plus)) (operand.noun (atom (negsuc 0)))) None (atom (pos 1)) s ≡ Erred fault.Domain s }
+    ensures noun_swapped { (s : State) → call (nested 9) (derived m.Passive (operand.noun (atom (pos 1)))) None (atom (pos 1)) s ≡ Erred fault.Domain s }
+{}
+
 /// Laws: sentences with names worked out by hand. A name is given what it holds by row 7, and a verb's name is looked up for each cell, as a step.
 pub fn name_rows()
     ensures assigned { top_of (name f ∷ global_copula ∷ plus ∷ []) ≡ Gave (a_verb (primitive p.Plus)) (knowing (f_is (a_verb (primitive p.Plus))) 2 []) }
@@ -64,14 +106,22 @@ pub fn name_rows()
         ≡ Gave (a_noun (atom (pos 8))) (knowing (f_is (a_noun (atom (pos 5)))) 3 (codes "8" ++ 10 ∷ [])) }
     ensures in_parentheses { top_of (open_mark ∷ name f ∷ global_copula ∷ noun (atom (pos 5)) ∷ close_mark ∷ [])
         ≡ Gave (a_noun (atom (pos 5))) (knowing (f_is (a_noun (atom (pos 5)))) 3 (codes "5" ++ 10 ∷ [])) }
-    ensures no_value { (names : NameMap) → look names f ≡ None → top (name f ∷ []) (knowing names 0 []) ≡ Erred fault.Value (knowing names 1 []) }
-    ensures noun_by_value { (names : NameMap) → look names f ≡ Some (a_noun (atom (pos 5))) → top (name f ∷ plus ∷ name f ∷ []) (knowing names 0 [])
+    ensures locative_assigned { top_of (name f_in_g ∷ global_copula ∷ plus ∷ []) ≡ Erred fault.Nonce (after 2 []) }
+    ensures locative_moved { top_of (name f_in_g ∷ []) ≡ Erred fault.Nonce (after 1 []) }
+    ensures no_value { (names : NameMap) → look names f ≡ Ok None → top (name f ∷ []) (knowing names 0 []) ≡ Erred fault.Value (knowing names 1 []) }
+    ensures noun_by_value { (names : NameMap) → look names f ≡ Ok (Some (a_noun (atom (pos 5)))) → top (name f ∷ plus ∷ name f ∷ []) (knowing names 0 [])
         ≡ Gave (a_noun (atom (pos 10))) (knowing names 2 (codes "10" ++ 10 ∷ [])) }
-    ensures verb_stays { (names : NameMap) → look names f ≡ Some (a_verb (primitive p.Plus)) → top (name f ∷ []) (knowing names 0 [])
+    ensures verb_stays { (names : NameMap) → look names f ≡ Ok (Some (a_verb (primitive p.Plus))) → top (name f ∷ []) (knowing names 0 [])
         ≡ Gave (a_verb (named f (same (of 0)))) (knowing names 1 (codes "verb" ++ 10 ∷ [])) }
-    ensures each_cell { (names : NameMap) → look names f ≡ Some (a_verb (primitive p.Minus)) → call (nested 9) (named f (same (of 0))) None (list (pos 1 ∷ pos 2 ∷ [])) (knowing names 0 [])
+    ensures each_cell { (names : NameMap) → look names f ≡ Ok (Some (a_verb (primitive p.Minus))) → call (nested 9) (named f (same (of 0))) None (list (pos 1 ∷ pos 2 ∷ [])) (knowing names 0 [])
         ≡ Gave (list (negsuc 0 ∷ negsuc 1 ∷ [])) (knowing names 2 []) }
-    ensures no_verb { (names : NameMap) → look names f ≡ Some (a_noun (atom (pos 5))) → call (nested 9) (named f endless) None (atom (pos 1)) (knowing names 0 []) ≡ Erred fault.Value (knowing names 1 []) }
-    ensures itself { (names : NameMap) → look names f ≡ Some (a_verb (named f endless)) → call (nested 3) (named f endless) None (atom (pos 1)) (knowing names 0 []) ≡ Erred fault.Stack (knowing names 3 []) }
-    ensures spent { (names : NameMap) → look names f ≡ Some (a_verb (primitive p.Minus)) → call (nested 9) (named f (same (of 0))) None (list (pos 1 ∷ pos 2 ∷ [])) (knowing names 99 []) ≡ Spent (knowing names 100 []) }
+    ensures no_verb { (names : NameMap) → look names f ≡ Ok (Some (a_noun (atom (pos 5)))) → call (nested 9) (named f endless) None (atom (pos 1)) (knowing names 0 []) ≡ Erred fault.Value (knowing names 1 []) }
+    ensures itself { (names : NameMap) → look names f ≡ Ok (Some (a_verb (named f endless))) → call (nested 3) (named f endless) None (atom (pos 1)) (knowing names 0 []) ≡ Erred fault.Stack (knowing names 3 []) }
+    ensures spent { (names : NameMap) → look names f ≡ Ok (Some (a_verb (primitive p.Minus))) → call (nested 9) (named f (same (of 0))) None (list (pos 1 ∷ pos 2 ∷ [])) (knowing names 99 []) ≡ Spent (knowing names 100 []) }
+{}
+
+/// Laws: each word is moved once and goes in a row once, so the bound of a sentence is never met.
+#[tactic(auto, using(crate::proofs::Bound::bound_is_enough))]
+pub fn parsing_laws()
+    ensures bound { BoundIsEnough }
 {}

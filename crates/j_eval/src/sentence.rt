@@ -1,65 +1,34 @@
 // The sentences of a run: the parsing table is run over a queue and a stack.
-ghost use Rattle.std.specs.Prelude.{◌≡◌, ◌+◌, ◌<◌, ◌∷◌, length, map, OnOk, Result as ResultOf};
-ghost use Rattle.j_definitions.specs.declared.Fault.{Fault as FaultValue};
-ghost use Rattle.j_names.specs.Names.{look};
-ghost use Rattle.j_entity.specs.Tree.{EntityTree, VerbTree, a_verb, named};
+ghost use Rattle.std.specs.Prelude.{◌≡◌, ◌+◌, ◌∷◌, [], IfOk, length, map, option_map};
+ghost use Rattle.j_entity.specs.Tree.{a_verb, named};
 ghost use Rattle.j_entity.specs.View.{entity_of, word_of};
-ghost use Rattle.j_trains.specs.Formed.{IsFormed, IsFormedVerb};
-ghost use Rattle.j_eval.specs.State.{or_fault};
-ghost use Rattle.j_eval.specs.Applying.{Calls, nested};
+ghost use Rattle.j_noun.specs.Refused.{OrWantingAs};
+ghost use Rattle.j_eval.specs.Applying.{nested};
 ghost use Rattle.j_eval.specs.Stack.{stack_of, slot_of};
 ghost use Rattle.j_eval.specs.Table.{Word};
-ghost use Rattle.j_eval.specs.declared.stack.Row.TheVariants as row;
-ghost use Rattle.j_eval.specs.Meaning.{ranked, entity_bident, bident_words, assigned, reduced, entity_in, is_nil, is_assignment, name_moved, word_moved, moved, no_value, valued, ended, finished, sentence};
-ghost use Rattle.j_eval.specs.Meets.{Running, Meets, MeetsAs, MeetsAt, NoMemoryOr, Onward, given_of};
+ghost use Rattle.j_eval.specs.Meaning.{ranked, entity_bident, is_local, no_names, assigned, monad_at, dyad_at, modified, joined, train, bident, assignment, formed, made, kept, used, reduced, is_assignment, name_moved, word_moved, moved, value_of, finished, sentence};
+ghost use Rattle.j_eval.specs.Meets.{Meets, MeetsAs, MeetsAt, IsPartAs, NoMemoryOr, Onward, given_of};
+ghost use Rattle.j_verbs.specs.State.{or_fault};
 
 use crate::machine::Machine;
 use crate::outcome::Halt;
 use crate::stack::{
-    Entry, Row, is_copula, is_start, kind_at, kind_of, pop, pop_adverb, pop_conjunction, pop_noun,
-    pop_operand, pop_verb, pop_word, push, push_entity, row_of,
+    Entry, Row, adverb_at, conjunction_at, entity_at, entry_at, is_copula, is_start, kind_at,
+    noun_at, operand_at, push, replace, row_of, verb_at, word_at,
 };
-use j_entity::{Entity, Item, Operand, Operator, OperatorParts, Parts, Tree, Verb};
+use j_entity::{Entity, Item, Operand, Operator, OperatorParts, Tree, Verb};
 use j_leaves::{Name, Ranks};
-use j_noun::{Fault, Rank, RankList, Refusal};
+use j_noun::{Fault, Kind, Rank, RankList, Refusal};
 use j_trains as trains;
 use std::alloc::Global;
 
-const ENDLESS: Ranks = Ranks {
-    monad: Rank::Infinite,
-    left: Rank::Infinite,
-    right: Rank::Infinite,
-};
-
-// What forming an entity answers, as a part of a run.
-fn formed(answer: Result<Entity, Refusal>) -> Result<Entity, Halt>
-    ensures gives { (m : Running) (r : ResultOf EntityTree FaultValue) → IsFormed r answer → MeetsAs entity_of result m (or_fault r m.state) }
-{
-    match answer {
-        Ok(e) => Ok(e),
-        Err(Refusal::Fault(fault)) => Err(Halt::Failed(fault)),
-        Err(Refusal::NoMemory) => Err(Halt::NoMemory),
-    }
-}
-
-// The same of a verb.
-fn formed_verb(answer: Result<Verb, Refusal>) -> Result<Verb, Halt>
-    ensures gives { (m : Running) (r : ResultOf VerbTree FaultValue) → IsFormedVerb r answer → Meets result m (or_fault r m.state) }
-{
-    match answer {
-        Ok(v) => Ok(v),
-        Err(Refusal::Fault(fault)) => Err(Halt::Failed(fault)),
-        Err(Refusal::NoMemory) => Err(Halt::NoMemory),
-    }
-}
-
 // A conjunction and a rank list right of it.
-fn ranked(alloc: Global, b: Entity, l: RankList) -> Result<Entity, Refusal>
-    ensures { IsFormed (ranked (entity_of b) l) result }
+fn ranked(alloc: Global, b: &Entity, l: &RankList) -> Result<Entity, Refusal>
+    ensures { OrWantingAs entity_of (ranked (entity_of b.now) l.now) result }
 {
     match b {
         Entity::Conjunction(c) => {
-            let parts = OperatorParts::Right(c, Operand::Ranks(l));
+            let parts = OperatorParts::Right(c.duplicate()?, Operand::Ranks(l.duplicate()?));
             Ok(Entity::Adverb(Operator::derive(alloc, parts)?))
         }
         Entity::Noun(_) | Entity::Verb(_) | Entity::Adverb(_) => {
@@ -69,11 +38,11 @@ fn ranked(alloc: Global, b: Entity, l: RankList) -> Result<Entity, Refusal>
 }
 
 // An entity and a word right of it.
-fn entity_bident(alloc: Global, b: Entity, c: Item) -> Result<Entity, Refusal>
-    ensures { IsFormed (entity_bident (entity_of b) (word_of c)) result }
+fn entity_bident(alloc: Global, b: &Entity, c: &Item) -> Result<Entity, Refusal>
+    ensures { OrWantingAs entity_of (entity_bident (entity_of b.now) (word_of c.now)) result }
 {
     match c {
-        Item::Entity(c) => trains::bident(alloc, b, c),
+        Item::Entity(c) => trains::bident(alloc, b.duplicate()?, c.duplicate()?),
         Item::Ranks(l) => ranked(alloc, b, l),
         Item::Name(_) | Item::Local | Item::Global | Item::Open | Item::Close => {
             Err(Refusal::Fault(Fault::Syntax))
@@ -81,25 +50,61 @@ fn entity_bident(alloc: Global, b: Entity, c: Item) -> Result<Entity, Refusal>
     }
 }
 
-// Two words alone.
-fn bident(alloc: Global, b: Item, c: Item) -> Result<Entity, Refusal>
-    ensures { IsFormed (bident_words (word_of b) (word_of c)) result }
+// An adverb right of its operand.
+#[tactic(auto, unfolding(crate::specs::Meaning::modified))]
+fn modified(alloc: Global, stack: &[Entry]) -> Result<Entity, Halt>
+    ensures { IsPartAs entity_of (modified (stack_of stack.now)) result }
 {
-    match b {
-        Item::Entity(b) => entity_bident(alloc, b, c),
-        Item::Ranks(_) | Item::Name(_) | Item::Local | Item::Global | Item::Open | Item::Close =>
-            Err(Refusal::Fault(Fault::Syntax)),
-    }
+    let a = adverb_at(stack, 2)?;
+    let u = operand_at(stack, 1)?;
+    Ok(trains::adverb(alloc, a, u)?)
 }
 
-// The entity of a word.
-fn entity_in(word: Item) -> Result<Entity, Halt>
-    ensures { (m : Running) → MeetsAs entity_of result m (or_fault (entity_in (word_of word)) m.state) }
+// A conjunction between its operands.
+#[tactic(auto, unfolding(crate::specs::Meaning::joined))]
+fn joined(alloc: Global, stack: &[Entry]) -> Result<Entity, Halt>
+    ensures { IsPartAs entity_of (joined (stack_of stack.now)) result }
 {
-    match word {
-        Item::Entity(e) => Ok(e),
-        Item::Ranks(_) | Item::Name(_) | Item::Local | Item::Global | Item::Open | Item::Close =>
-            Err(Halt::Failed(Fault::Syntax)),
+    let c = conjunction_at(stack, 2)?;
+    let v = operand_at(stack, 3)?;
+    let u = operand_at(stack, 1)?;
+    Ok(trains::conjunction(alloc, c, u, v)?)
+}
+
+// Three verbs, or a noun and two verbs.
+#[tactic(auto, unfolding(crate::specs::Meaning::train))]
+fn train(alloc: Global, stack: &[Entry]) -> Result<Entity, Halt>
+    ensures { IsPartAs entity_of (train (stack_of stack.now)) result }
+{
+    let g = verb_at(stack, 2)?;
+    let h = verb_at(stack, 3)?;
+    let f = operand_at(stack, 1)?;
+    Ok(Entity::Verb(trains::fork(alloc, f, g.duplicate()?, h.duplicate()?)?))
+}
+
+// Two entities.
+#[tactic(auto, unfolding(crate::specs::Meaning::bident))]
+fn bident(alloc: Global, stack: &[Entry]) -> Result<Entity, Halt>
+    ensures { IsPartAs entity_of (bident (stack_of stack.now)) result }
+{
+    let b = entity_at(stack, 1)?;
+    let c = word_at(stack, 2)?;
+    Ok(entity_bident(alloc, b, c)?)
+}
+
+// What a row forms, where it applies no verb and assigns nothing.
+fn formed(alloc: Global, row: Row, stack: &[Entry]) -> Result<Entity, Halt>
+    ensures { IsPartAs entity_of (formed row (stack_of stack.now)) result }
+{
+    match row {
+        Row::Adverb => modified(alloc, stack),
+        Row::Conjunction => joined(alloc, stack),
+        Row::Fork => train(alloc, stack),
+        Row::Bident => bident(alloc, stack),
+        Row::Parentheses => Ok(entity_at(stack, 1)?.duplicate()?),
+        Row::Monad | Row::MonadRight | Row::Dyad | Row::Assignment => {
+            Err(Halt::Failed(Fault::Syntax))
+        }
     }
 }
 
@@ -107,11 +112,24 @@ fn entity_in(word: Item) -> Result<Entity, Halt>
 fn name_verb(alloc: Global, name: &Name, ranks: Ranks) -> Result<Entity, Halt>
     ensures { NoMemoryOr result (λ e. entity_of e ≡ a_verb (named name.now ranks)) }
 {
-    let parts = Parts::Named(name.duplicate()?, ranks);
-    match Verb::derive(alloc, parts) {
-        Ok(v) => Ok(Entity::Verb(v)),
-        Err(_) => Err(Halt::NoMemory),
+    Ok(Entity::Verb(Verb::named(alloc, name.duplicate()?, ranks)?))
+}
+
+// Why nothing is assigned to a noun.
+fn no_names(kind: Kind) -> Fault
+    ensures { result ≡ no_names kind }
+{
+    match kind {
+        Kind::Character => Fault::Nonce,
+        Kind::Number | Kind::Boxed => Fault::Domain,
     }
+}
+
+// Whether a copula is `=.`.
+fn is_local(copula: Option<&Entry>) -> bool
+    ensures { result ≡ is_local (option_map (λ s. slot_of s.now) copula.entry) }
+{
+    matches!(copula, Some(Entry::Word(Item::Local)))
 }
 
 fn is_assignment(row: Row) -> bool
@@ -120,13 +138,45 @@ fn is_assignment(row: Row) -> bool
     matches!(row, Row::Assignment)
 }
 
+// How many entries stay before the entity of a row.
+fn kept(row: Row) -> u32
+    ensures { result ≡ kept row }
+{
+    match row {
+        Row::Assignment | Row::Parentheses => 0,
+        Row::MonadRight => 2,
+        Row::Monad | Row::Dyad | Row::Adverb | Row::Conjunction | Row::Fork | Row::Bident => 1,
+    }
+}
+
+// How many entries it stands for.
+fn used(row: Row) -> usize
+    ensures { result ≡ used row }
+{
+    match row {
+        Row::Monad | Row::MonadRight | Row::Adverb | Row::Bident => 2,
+        Row::Dyad | Row::Conjunction | Row::Fork | Row::Assignment | Row::Parentheses => 3,
+    }
+}
+
+const ENDLESS: Ranks = Ranks {
+    monad: Rank::Infinite,
+    left: Rank::Infinite,
+    right: Rank::Infinite,
+};
+
 impl Machine {
-    // Whether a verb is a name that holds nothing.
-    fn no_value(&self, v: &Verb) -> bool
-        ensures { result ≡ no_value self.now.state.names v.now }
+    // Whether a verb's name holds something.
+    fn holds(&self, v: &Verb) -> Result<(), Halt>
+        ensures { MeetsAs (λ _. a_verb v.now) result self.now (value_of (a_verb v.now) self.now.state) }
     {
         match v.tree() {
-            Tree::Named(name, _) => self.held(name).is_none(),
+            Tree::Named(name, _) => {
+                if self.found(name)?.is_none() {
+                    return Err(Halt::Failed(Fault::Value));
+                }
+                Ok(())
+            }
             Tree::Primitive(_)
             | Tree::Fork(_, _, _)
             | Tree::NounFork(_, _, _)
@@ -135,52 +185,46 @@ impl Machine {
             | Tree::Derived2(_, _, _)
             | Tree::Explicit(_)
             | Tree::Explicit1(_, _)
-            | Tree::Explicit2(_, _, _) => false,
+            | Tree::Explicit2(_, _, _) => Ok(()),
         }
     }
 
-    // What a sentence gives at its end. A verb's name that holds nothing is no value.
-    fn valued(&self, quiet: bool, e: Entity) -> Result<(Entity, bool), Halt>
-        ensures { MeetsAs given_of result self.now (valued quiet (entity_of e) self.now.state) }
+    fn verb_value(&self, v: &Verb) -> Result<Entity, Halt>
+        ensures { MeetsAs entity_of result self.now (value_of (a_verb v.now) self.now.state) }
+    {
+        self.holds(v)?;
+        Ok(Entity::Verb(v.duplicate()?))
+    }
+
+    // The value that an entity is. A verb's name that holds nothing is no value.
+    fn value_of(&self, e: &Entity) -> Result<Entity, Halt>
+        ensures { MeetsAs entity_of result self.now (value_of (entity_of e.now) self.now.state) }
     {
         match e {
-            Entity::Verb(v) => {
-                if self.no_value(&v) {
-                    return Err(Halt::Failed(Fault::Value));
-                }
-                Ok((Entity::Verb(v), quiet))
-            }
-            Entity::Noun(_) | Entity::Adverb(_) | Entity::Conjunction(_) => Ok((e, quiet)),
+            Entity::Verb(v) => self.verb_value(v),
+            Entity::Noun(y) => Ok(Entity::Noun(y.duplicate()?)),
+            Entity::Adverb(a) => Ok(Entity::Adverb(a.duplicate()?)),
+            Entity::Conjunction(c) => Ok(Entity::Conjunction(c.duplicate()?)),
         }
     }
 
-    // What a sentence gives by its last word, where it stands alone.
-    fn ended(&self, quiet: bool, alone: bool, word: Item) -> Result<(Entity, bool), Halt>
-        ensures { MeetsAs given_of result self.now (ended quiet alone (word_of word) self.now.state) }
+    // At the end the stack is the start mark and one entity.
+    #[tactic(auto, unfolding(crate::specs::Meaning::finished), using(crate::proofs::Stacks::length_stack))]
+    fn finished(&self, quiet: bool, stack: &[Entry]) -> Result<(Entity, bool), Halt>
+        ensures { MeetsAs given_of result self.now (finished quiet (stack_of stack.now) self.now.state) }
     {
-        if alone {
-            let e = entity_in(word)?;
-            self.valued(quiet, e)
+        if stack.len() == 2 && is_start(kind_at(stack, 0)) {
+            Ok((self.value_of(entity_at(stack, 1)?)?, quiet))
         } else {
             Err(Halt::Failed(Fault::Syntax))
         }
     }
 
-    // At the end the stack is the start mark and one entity.
-    fn finished(&self, quiet: bool, mut stack: Vec<Entry>) -> Result<(Entity, bool), Halt>
-        ensures { MeetsAs given_of result self.now (finished quiet (stack_of stack.items) self.now.state) }
-    {
-        let mark = pop(&mut stack)?;
-        let word = pop_word(&mut stack)?;
-        let alone = is_start(kind_of(&mark)) && stack.is_empty();
-        self.ended(quiet, alone, word)
-    }
-
     // What a name becomes when it is moved.
-    fn name_moved(&self, name: &Name) -> Result<Entity, Halt>
-        ensures { NoMemoryOr result (λ e. entity_of e ≡ name_moved name.now (look self.now.state.names name.now)) }
+    fn name_moved(&self, name: &Name, held: Option<&Entity>) -> Result<Entity, Halt>
+        ensures { NoMemoryOr result (λ e. entity_of e ≡ name_moved name.now (option_map (λ e. entity_of e.now) held.entry)) }
     {
-        match self.held(name) {
+        match held {
             None => name_verb(self.alloc(), name, ENDLESS),
             Some(Entity::Verb(v)) => name_verb(self.alloc(), name, v.ranks()),
             Some(Entity::Noun(y)) => Ok(Entity::Noun(y.duplicate()?)),
@@ -191,10 +235,13 @@ impl Machine {
 
     // A word as it is moved, where it may be left of a copula.
     fn word_moved(&self, left: bool, word: &Item) -> Result<Item, Halt>
-        ensures { NoMemoryOr result (λ w. word_of w ≡ word_moved left self.now.state.names (word_of word.now)) }
+        ensures { MeetsAs word_of result self.now (word_moved left (word_of word.now) self.now.state) }
     {
         match word {
-            Item::Name(name) if !left => Ok(Item::Entity(self.name_moved(name)?)),
+            Item::Name(name) if !left => {
+                let held = self.found(name)?;
+                Ok(Item::Entity(self.name_moved(name, held)?))
+            }
             Item::Name(name) => Ok(Item::Name(name.duplicate()?)),
             Item::Entity(e) => Ok(Item::Entity(e.duplicate()?)),
             Item::Ranks(l) => Ok(Item::Ranks(l.duplicate()?)),
@@ -205,176 +252,116 @@ impl Machine {
         }
     }
 
-    // The next word is moved to the stack. A name directly left of a copula stays as it is.
+    // The next word is moved to the stack.
     fn move_word(&self, stack: &mut Vec<Entry>, word: &Item) -> Result<(), Halt>
-        ensures { NoMemoryOr result (λ _. (stack_of stack.new.items ≡ moved self.now.state.names (stack_of stack.old.items) (Word (word_of word.now)) ∷ stack_of stack.old.items)
-            × (length stack.new.items ≡ length stack.old.items + 1)) }
+        ensures gives { MeetsAt (stack_of stack.new.items) result self.now (moved (stack_of stack.old.items) (Word (word_of word.now)) self.now.state) }
+        ensures one { IfOk result (λ _. length stack.new.items ≡ length stack.old.items + 1) }
     {
         let left = is_copula(kind_at(stack, 0));
         let word = self.word_moved(left, word)?;
         push(stack, Entry::Word(word))
     }
 
-    // Row 0: a verb at an edge, on the noun right of it.
-    fn monad(&mut self, room: u32, stack: &mut Vec<Entry>) -> Result<(), Halt>
-        ensures gives { MeetsAt (stack_of stack.new.items) result self.new (reduced (nested room) row.Monad (stack_of stack.old.items) self.old.state) }
-        ensures shorter { OnOk result ((0 < length stack.new.items) × (length stack.new.items < length stack.old.items)) }
+    // What a row forms.
+    #[tactic(auto, using(crate::proofs::Parts::meets_part_as))]
+    fn formed(&mut self, row: Row, stack: &[Entry]) -> Result<Entity, Halt>
+        ensures gives { MeetsAs entity_of result self.new (or_fault (formed row (stack_of stack.now)) self.old.state) }
         ensures onward { Onward self.old self.new }
     {
-        let a = pop(stack)?;
-        let v = pop_verb(stack)?;
-        let y = pop_noun(stack)?;
-        let r = self.call(room, &v, None, &y)?;
-        push_entity(stack, Entity::Noun(r))?;
-        push(stack, a)
+        formed(self.alloc(), row, stack)
     }
 
-    // Row 1: a verb on the noun right of it, with a verb on its left.
-    fn monad_right(&mut self, room: u32, stack: &mut Vec<Entry>) -> Result<(), Halt>
-        ensures gives { MeetsAt (stack_of stack.new.items) result self.new (reduced (nested room) row.MonadRight (stack_of stack.old.items) self.old.state) }
-        ensures shorter { OnOk result ((0 < length stack.new.items) × (length stack.new.items < length stack.old.items)) }
+    // A stack without entries.
+    fn empty_stack(&self) -> Vec<Entry>
+        ensures { result.items ≡ [] }
+    {
+        Vec::new(self.alloc())
+    }
+
+    // The verb and the noun at two places.
+    #[tactic(auto, unfolding(crate::specs::Meaning::monad_at))]
+    fn monad(&mut self, room: u32, stack: &[Entry], i: u32, j: u32) -> Result<Entity, Halt>
+        ensures gives { MeetsAs entity_of result self.new (monad_at (nested room) (stack_of stack.now) i j self.old.state) }
         ensures onward { Onward self.old self.new }
     {
-        let a = pop(stack)?;
-        let b = pop(stack)?;
-        let v = pop_verb(stack)?;
-        let y = pop_noun(stack)?;
-        let r = self.call(room, &v, None, &y)?;
-        push_entity(stack, Entity::Noun(r))?;
-        push(stack, b)?;
-        push(stack, a)
+        let v = verb_at(stack, i)?;
+        let y = noun_at(stack, j)?;
+        Ok(Entity::Noun(self.call(room, v, None, y)?))
     }
 
-    // Row 2: a verb between two nouns.
-    fn dyad(&mut self, room: u32, stack: &mut Vec<Entry>) -> Result<(), Halt>
-        ensures gives { MeetsAt (stack_of stack.new.items) result self.new (reduced (nested room) row.Dyad (stack_of stack.old.items) self.old.state) }
-        ensures shorter { OnOk result ((0 < length stack.new.items) × (length stack.new.items < length stack.old.items)) }
+    // A verb between two nouns.
+    #[tactic(auto, unfolding(crate::specs::Meaning::dyad_at))]
+    fn dyad(&mut self, room: u32, stack: &[Entry]) -> Result<Entity, Halt>
+        ensures gives { MeetsAs entity_of result self.new (dyad_at (nested room) (stack_of stack.now) self.old.state) }
         ensures onward { Onward self.old self.new }
     {
-        let a = pop(stack)?;
-        let x = pop_noun(stack)?;
-        let v = pop_verb(stack)?;
-        let y = pop_noun(stack)?;
-        let r = self.call(room, &v, Some(&x), &y)?;
-        push_entity(stack, Entity::Noun(r))?;
-        push(stack, a)
-    }
-
-    // Row 3: an adverb right of its operand.
-    fn modified(&self, stack: &mut Vec<Entry>) -> Result<(), Halt>
-        ensures gives { (calls : Calls) → MeetsAt (stack_of stack.new.items) result self.now (reduced calls row.Adverb (stack_of stack.old.items) self.now.state) }
-        ensures shorter { OnOk result ((0 < length stack.new.items) × (length stack.new.items < length stack.old.items)) }
-    {
-        let a = pop(stack)?;
-        let u = pop_operand(stack)?;
-        let b = pop_adverb(stack)?;
-        let e = formed(trains::adverb(self.alloc(), &b, u))?;
-        push_entity(stack, e)?;
-        push(stack, a)
-    }
-
-    // Row 4: a conjunction between its operands.
-    fn joined(&self, stack: &mut Vec<Entry>) -> Result<(), Halt>
-        ensures gives { (calls : Calls) → MeetsAt (stack_of stack.new.items) result self.now (reduced calls row.Conjunction (stack_of stack.old.items) self.now.state) }
-        ensures shorter { OnOk result ((0 < length stack.new.items) × (length stack.new.items < length stack.old.items)) }
-    {
-        let a = pop(stack)?;
-        let u = pop_operand(stack)?;
-        let c = pop_conjunction(stack)?;
-        let v = pop_operand(stack)?;
-        let e = formed(trains::conjunction(self.alloc(), &c, u, v))?;
-        push_entity(stack, e)?;
-        push(stack, a)
-    }
-
-    // Row 5: a fork.
-    fn train(&self, stack: &mut Vec<Entry>) -> Result<(), Halt>
-        ensures gives { (calls : Calls) → MeetsAt (stack_of stack.new.items) result self.now (reduced calls row.Fork (stack_of stack.old.items) self.now.state) }
-        ensures shorter { OnOk result ((0 < length stack.new.items) × (length stack.new.items < length stack.old.items)) }
-    {
-        let a = pop(stack)?;
-        let f = pop_operand(stack)?;
-        let g = pop_verb(stack)?;
-        let h = pop_verb(stack)?;
-        let v = formed_verb(trains::fork(self.alloc(), f, g, h))?;
-        push_entity(stack, Entity::Verb(v))?;
-        push(stack, a)
-    }
-
-    // Row 6: two entities alone.
-    fn bident(&self, stack: &mut Vec<Entry>) -> Result<(), Halt>
-        ensures gives { (calls : Calls) → MeetsAt (stack_of stack.new.items) result self.now (reduced calls row.Bident (stack_of stack.old.items) self.now.state) }
-        ensures shorter { OnOk result ((0 < length stack.new.items) × (length stack.new.items < length stack.old.items)) }
-    {
-        let a = pop(stack)?;
-        let b = pop_word(stack)?;
-        let c = pop_word(stack)?;
-        let e = formed(bident(self.alloc(), b, c))?;
-        push_entity(stack, e)?;
-        push(stack, a)
+        let x = noun_at(stack, 1)?;
+        let v = verb_at(stack, 2)?;
+        let y = noun_at(stack, 3)?;
+        Ok(Entity::Noun(self.call(room, v, Some(x), y)?))
     }
 
     // What stands left of a copula is given an entity, where it is a name.
-    fn assign(&mut self, left: Entry, e: Entity) -> Result<(), Halt>
-        ensures gives { Meets result self.new (assigned (slot_of left) (entity_of e) self.old.state) }
+    fn assign(&mut self, local: bool, left: Option<&Entry>, e: Entity) -> Result<(), Halt>
+        ensures gives { Meets result self.new (assigned local (option_map (λ s. slot_of s.now) left.entry) (entity_of e) self.old.state) }
         ensures onward { Onward self.old self.new }
     {
         match left {
-            Entry::Word(Item::Name(name)) => self.set_name(name, e),
-            Entry::Start
-            | Entry::Word(
-                Item::Entity(_)
-                | Item::Ranks(_)
-                | Item::Local
-                | Item::Global
-                | Item::Open
-                | Item::Close,
+            Some(Entry::Word(Item::Name(name))) => self.set_name(local, name.duplicate()?, e),
+            Some(Entry::Word(Item::Entity(Entity::Noun(y)))) => {
+                Err(Halt::Failed(no_names(y.kind())))
+            }
+            None
+            | Some(
+                Entry::Start
+                | Entry::Word(
+                    Item::Entity(Entity::Verb(_) | Entity::Adverb(_) | Entity::Conjunction(_))
+                    | Item::Ranks(_)
+                    | Item::Local
+                    | Item::Global
+                    | Item::Open
+                    | Item::Close,
+                ),
             ) => Err(Halt::Failed(Fault::Domain)),
         }
     }
 
-    // Row 7: a name or a noun left of a copula.
-    fn assignment(&mut self, stack: &mut Vec<Entry>) -> Result<(), Halt>
-        ensures gives { (calls : Calls) → MeetsAt (stack_of stack.new.items) result self.new (reduced calls row.Assignment (stack_of stack.old.items) self.old.state) }
-        ensures shorter { OnOk result ((0 < length stack.new.items) × (length stack.new.items < length stack.old.items)) }
+    // What stands left of a copula is given the entity right of it.
+    #[tactic(auto, unfolding(crate::specs::Meaning::assignment))]
+    fn assignment(&mut self, stack: &[Entry]) -> Result<Entity, Halt>
+        ensures gives { MeetsAs entity_of result self.new (assignment (stack_of stack.now) self.old.state) }
         ensures onward { Onward self.old self.new }
     {
-        let left = pop(stack)?;
-        pop(stack)?;
-        let e = entity_in(pop_word(stack)?)?;
-        let held = e.duplicate()?;
-        self.assign(left, held)?;
-        push_entity(stack, e)
+        let e = entity_at(stack, 2)?;
+        let local = is_local(entry_at(stack, 1));
+        self.assign(local, entry_at(stack, 0), e.duplicate()?)?;
+        Ok(e.duplicate()?)
     }
 
-    // Row 8: an entity in parentheses.
-    fn parentheses(&self, stack: &mut Vec<Entry>) -> Result<(), Halt>
-        ensures gives { (calls : Calls) → MeetsAt (stack_of stack.new.items) result self.now (reduced calls row.Parentheses (stack_of stack.old.items) self.now.state) }
-        ensures shorter { OnOk result ((0 < length stack.new.items) × (length stack.new.items < length stack.old.items)) }
-    {
-        pop(stack)?;
-        let e = pop(stack)?;
-        pop(stack)?;
-        push(stack, e)
-    }
-
-    // What a row does with the first entries.
-    fn reduce(&mut self, room: u32, row: Row, stack: &mut Vec<Entry>) -> Result<(), Halt>
-        ensures gives { MeetsAt (stack_of stack.new.items) result self.new (reduced (nested room) row (stack_of stack.old.items) self.old.state) }
-        ensures shorter { OnOk result ((0 < length stack.new.items) × (length stack.new.items < length stack.old.items)) }
+    // The entity that a row makes of the first entries.
+    fn made(&mut self, room: u32, row: Row, stack: &[Entry]) -> Result<Entity, Halt>
+        ensures gives { MeetsAs entity_of result self.new (made (nested room) row (stack_of stack.now) self.old.state) }
         ensures onward { Onward self.old self.new }
     {
         match row {
-            Row::Monad => self.monad(room, stack),
-            Row::MonadRight => self.monad_right(room, stack),
+            Row::Monad => self.monad(room, stack, 1, 2),
+            Row::MonadRight => self.monad(room, stack, 2, 3),
             Row::Dyad => self.dyad(room, stack),
-            Row::Adverb => self.modified(stack),
-            Row::Conjunction => self.joined(stack),
-            Row::Fork => self.train(stack),
-            Row::Bident => self.bident(stack),
             Row::Assignment => self.assignment(stack),
-            Row::Parentheses => self.parentheses(stack),
+            Row::Adverb | Row::Conjunction | Row::Fork | Row::Bident | Row::Parentheses => {
+                self.formed(row, stack)
+            }
         }
+    }
+
+    // What a row does with the first entries.
+    #[tactic(auto, unfolding(crate::specs::Meaning::reduced_by_places))]
+    fn reduce(&mut self, room: u32, row: Row, stack: &mut Vec<Entry>) -> Result<(), Halt>
+        ensures gives { MeetsAt (stack_of stack.new.items) result self.new (reduced (nested room) row (stack_of stack.old.items) self.old.state) }
+        ensures onward { Onward self.old self.new }
+    {
+        let e = self.made(room, row, stack)?;
+        replace(stack, kept(row), used(row), e)
     }
 
     /// The value of a sentence, and whether its last row was an assignment.
@@ -383,7 +370,7 @@ impl Machine {
         ensures onward { Onward self.old self.new }
     {
         self.tick()?;
-        let mut stack = Vec::new(self.alloc());
+        let mut stack = self.empty_stack();
         let mut left = items;
         let mut started = false;
         let mut quiet = false;
@@ -399,7 +386,7 @@ impl Machine {
                 push(&mut stack, Entry::Start)?;
                 started = true;
             } else {
-                return self.finished(quiet, stack);
+                return self.finished(quiet, &stack);
             }
         }
     }

@@ -1,10 +1,10 @@
 // The stack of a sentence. Its first entry, the leftmost, is last in the vector.
-ghost use Rattle.std.specs.Prelude.{◌≡◌, ◌+◌, ◌∷◌, length};
+ghost use Rattle.std.specs.Prelude.{◌≡◌, ◌+◌, ◌∷◌, drop, length, option_map};
 ghost use Rattle.j_entity.specs.Tree.{entity as entity_word};
 ghost use Rattle.j_entity.specs.View.{operand_of, word_of, entity_of};
-ghost use Rattle.j_eval.specs.Table.{kind_of, kind_at, entity_kind, word_kind, is_start, is_copula, is_open, is_close, is_noun, is_verb, is_adverb, is_conjunction, is_name, is_edge, is_operand, is_left, is_entity, fits, row_at, row_of, Word};
-ghost use Rattle.j_eval.specs.Stack.{slot_of, stack_of, popped, popped_word, popped_noun, popped_verb, popped_operand, popped_adverb, popped_conjunction};
-ghost use Rattle.j_eval.specs.Meets.{NoMemoryOr, Pops, PopsAs};
+ghost use Rattle.j_eval.specs.Table.{kind_of, slot_at, kind_at, entity_kind, word_kind, is_start, is_copula, is_open, is_close, is_noun, is_verb, is_adverb, is_conjunction, is_name, is_edge, is_operand, is_left, is_entity, fits, row_at, row_of, Word};
+ghost use Rattle.j_eval.specs.Stack.{slot_of, stack_of, word_at, entity_at, noun_at, verb_at, adverb_at, conjunction_at, entity_operand, operand_at, replaced};
+ghost use Rattle.j_eval.specs.Meets.{NoMemoryOr, IsPartAs};
 
 use crate::outcome::Halt;
 use j_entity::{Entity, Item, Operand, Operator, Verb};
@@ -79,18 +79,28 @@ pub fn kind_of(entry: &Entry) -> EntryKind
     }
 }
 
+/// The entry at a place.
+pub fn entry_at(stack: &[Entry], k: u32) -> Option<&Entry>
+    ensures { option_map (λ e. slot_of e.now) result ≡ slot_at (stack_of stack.now) k }
+{
+    match stack.split_last() {
+        None => None,
+        Some((first, rest)) => {
+            if k == 0 {
+                Some(first)
+            } else {
+                entry_at(rest, k - 1)
+            }
+        }
+    }
+}
+
 pub fn kind_at(stack: &[Entry], k: u32) -> EntryKind
     ensures { result ≡ kind_at (stack_of stack.now) k }
 {
-    match stack.split_last() {
+    match entry_at(stack, k) {
         None => EntryKind::Nothing,
-        Some((first, rest)) => {
-            if k == 0 {
-                kind_of(first)
-            } else {
-                kind_at(rest, k - 1)
-            }
-        }
+        Some(entry) => kind_of(entry),
     }
 }
 
@@ -219,6 +229,7 @@ pub fn row_of(stack: &[Entry]) -> Option<Row>
     )
 }
 
+#[tactic(auto, using(crate::proofs::Stacks::stack_more))]
 pub fn push(stack: &mut Vec<Entry>, entry: Entry) -> Result<(), Halt>
     ensures { NoMemoryOr result (λ _. (stack_of stack.new.items ≡ slot_of entry ∷ stack_of stack.old.items) × (length stack.new.items ≡ length stack.old.items + 1)) }
 {
@@ -234,71 +245,120 @@ pub fn push_entity(stack: &mut Vec<Entry>, entity: Entity) -> Result<(), Halt>
     push(stack, Entry::Word(Item::Entity(entity)))
 }
 
-#[tactic(auto, unfolding(crate::specs::Stack::popped))]
-pub fn pop(stack: &mut Vec<Entry>) -> Result<Entry, Halt>
-    ensures { PopsAs slot_of result stack.old stack.new (popped (stack_of stack.old.items)) }
+#[tactic(auto, unfolding(crate::specs::Stack::word_at))]
+pub fn word_at(stack: &[Entry], k: u32) -> Result<&Item, Halt>
+    ensures { IsPartAs (λ w. word_of w.now) (word_at (stack_of stack.now) k) result }
 {
-    stack.pop().ok_or(Halt::Failed(Fault::Syntax))
-}
-
-#[tactic(auto, unfolding(crate::specs::Stack::popped_word))]
-pub fn pop_word(stack: &mut Vec<Entry>) -> Result<Item, Halt>
-    ensures { PopsAs word_of result stack.old stack.new (popped_word (stack_of stack.old.items)) }
-{
-    match stack.pop() {
+    match entry_at(stack, k) {
         Some(Entry::Word(word)) => Ok(word),
-        _ => Err(Halt::Failed(Fault::Syntax)),
+        Some(Entry::Start) | None => Err(Halt::Failed(Fault::Syntax)),
     }
 }
 
-#[tactic(auto, unfolding(crate::specs::Stack::popped_noun))]
-pub fn pop_noun(stack: &mut Vec<Entry>) -> Result<Noun, Halt>
-    ensures { Pops result stack.old stack.new (popped_noun (stack_of stack.old.items)) }
+#[tactic(auto, unfolding(crate::specs::Stack::entity_at))]
+pub fn entity_at(stack: &[Entry], k: u32) -> Result<&Entity, Halt>
+    ensures { IsPartAs (λ e. entity_of e.now) (entity_at (stack_of stack.now) k) result }
 {
-    match stack.pop() {
-        Some(Entry::Word(Item::Entity(Entity::Noun(y)))) => Ok(y),
-        _ => Err(Halt::Failed(Fault::Syntax)),
+    match word_at(stack, k)? {
+        Item::Entity(entity) => Ok(entity),
+        Item::Ranks(_) | Item::Name(_) | Item::Local | Item::Global | Item::Open | Item::Close =>
+            Err(Halt::Failed(Fault::Syntax)),
     }
 }
 
-#[tactic(auto, unfolding(crate::specs::Stack::popped_verb))]
-pub fn pop_verb(stack: &mut Vec<Entry>) -> Result<Verb, Halt>
-    ensures { Pops result stack.old stack.new (popped_verb (stack_of stack.old.items)) }
+#[tactic(auto, unfolding(crate::specs::Stack::noun_at))]
+pub fn noun_at(stack: &[Entry], k: u32) -> Result<&Noun, Halt>
+    ensures { IsPartAs (λ y. y.now) (noun_at (stack_of stack.now) k) result }
 {
-    match stack.pop() {
-        Some(Entry::Word(Item::Entity(Entity::Verb(v)))) => Ok(v),
-        _ => Err(Halt::Failed(Fault::Syntax)),
+    match entity_at(stack, k)? {
+        Entity::Noun(y) => Ok(y),
+        Entity::Verb(_) | Entity::Adverb(_) | Entity::Conjunction(_) => {
+            Err(Halt::Failed(Fault::Syntax))
+        }
     }
 }
 
-#[tactic(auto, unfolding(crate::specs::Stack::popped_operand))]
-pub fn pop_operand(stack: &mut Vec<Entry>) -> Result<Operand, Halt>
-    ensures { PopsAs operand_of result stack.old stack.new (popped_operand (stack_of stack.old.items)) }
+#[tactic(auto, unfolding(crate::specs::Stack::verb_at))]
+pub fn verb_at(stack: &[Entry], k: u32) -> Result<&Verb, Halt>
+    ensures { IsPartAs (λ v. v.now) (verb_at (stack_of stack.now) k) result }
 {
-    match stack.pop() {
-        Some(Entry::Word(Item::Entity(Entity::Noun(y)))) => Ok(Operand::Noun(y)),
-        Some(Entry::Word(Item::Entity(Entity::Verb(v)))) => Ok(Operand::Verb(v)),
-        Some(Entry::Word(Item::Ranks(l))) => Ok(Operand::Ranks(l)),
-        _ => Err(Halt::Failed(Fault::Syntax)),
+    match entity_at(stack, k)? {
+        Entity::Verb(v) => Ok(v),
+        Entity::Noun(_) | Entity::Adverb(_) | Entity::Conjunction(_) => {
+            Err(Halt::Failed(Fault::Syntax))
+        }
     }
 }
 
-#[tactic(auto, unfolding(crate::specs::Stack::popped_adverb))]
-pub fn pop_adverb(stack: &mut Vec<Entry>) -> Result<Operator, Halt>
-    ensures { Pops result stack.old stack.new (popped_adverb (stack_of stack.old.items)) }
+#[tactic(auto, unfolding(crate::specs::Stack::adverb_at))]
+pub fn adverb_at(stack: &[Entry], k: u32) -> Result<&Operator, Halt>
+    ensures { IsPartAs (λ a. a.now) (adverb_at (stack_of stack.now) k) result }
 {
-    match stack.pop() {
-        Some(Entry::Word(Item::Entity(Entity::Adverb(a)))) => Ok(a),
-        _ => Err(Halt::Failed(Fault::Syntax)),
+    match entity_at(stack, k)? {
+        Entity::Adverb(a) => Ok(a),
+        Entity::Noun(_) | Entity::Verb(_) | Entity::Conjunction(_) => {
+            Err(Halt::Failed(Fault::Syntax))
+        }
     }
 }
 
-#[tactic(auto, unfolding(crate::specs::Stack::popped_conjunction))]
-pub fn pop_conjunction(stack: &mut Vec<Entry>) -> Result<Operator, Halt>
-    ensures { Pops result stack.old stack.new (popped_conjunction (stack_of stack.old.items)) }
+#[tactic(auto, unfolding(crate::specs::Stack::conjunction_at))]
+pub fn conjunction_at(stack: &[Entry], k: u32) -> Result<&Operator, Halt>
+    ensures { IsPartAs (λ c. c.now) (conjunction_at (stack_of stack.now) k) result }
 {
+    match entity_at(stack, k)? {
+        Entity::Conjunction(c) => Ok(c),
+        Entity::Noun(_) | Entity::Verb(_) | Entity::Adverb(_) => Err(Halt::Failed(Fault::Syntax)),
+    }
+}
+
+// The operand that an entity is.
+fn entity_operand(entity: &Entity) -> Result<Operand, Halt>
+    ensures { IsPartAs operand_of (entity_operand (entity_of entity.now)) result }
+{
+    match entity {
+        Entity::Noun(y) => Ok(Operand::Noun(y.duplicate()?)),
+        Entity::Verb(v) => Ok(Operand::Verb(v.duplicate()?)),
+        Entity::Adverb(_) | Entity::Conjunction(_) => Err(Halt::Failed(Fault::Syntax)),
+    }
+}
+
+#[tactic(auto, unfolding(crate::specs::Stack::operand_at))]
+pub fn operand_at(stack: &[Entry], k: u32) -> Result<Operand, Halt>
+    ensures { IsPartAs operand_of (operand_at (stack_of stack.now) k) result }
+{
+    match word_at(stack, k)? {
+        Item::Entity(entity) => entity_operand(entity),
+        Item::Ranks(l) => Ok(Operand::Ranks(l.duplicate()?)),
+        Item::Name(_) | Item::Local | Item::Global | Item::Open | Item::Close => {
+            Err(Halt::Failed(Fault::Syntax))
+        }
+    }
+}
+
+// Takes the first n entries off.
+fn drop_first(stack: &mut Vec<Entry>, n: usize)
+    ensures { stack_of stack.new.items ≡ drop n (stack_of stack.old.items) }
+{
+    let left = stack.len().saturating_sub(n);
+    stack.truncate(left);
+}
+
+/// Puts an entity in place of n entries, with k entries before it.
+#[tactic(auto, using(crate::proofs::Stacks::stack_more, crate::proofs::Stacks::replaced_past, crate::proofs::Stacks::stack_empty))]
+pub fn replace(stack: &mut Vec<Entry>, k: u32, n: usize, entity: Entity) -> Result<(), Halt>
+    ensures { NoMemoryOr result (λ _. stack_of stack.new.items ≡ replaced k n (entity_of entity) (stack_of stack.old.items)) }
+{
+    if k == 0 {
+        drop_first(stack, n);
+        return push_entity(stack, entity);
+    }
     match stack.pop() {
-        Some(Entry::Word(Item::Entity(Entity::Conjunction(c)))) => Ok(c),
-        _ => Err(Halt::Failed(Fault::Syntax)),
+        None => Ok(()),
+        Some(first) => {
+            replace(stack, k - 1, n, entity)?;
+            push(stack, first)?;
+            Ok(())
+        }
     }
 }

@@ -1,20 +1,14 @@
+use Rattle.std.proofs.Common.{rules}
 use Rattle.j_eval.specs.Applying.{nested}
+use Rattle.j_eval.specs.Meaning.{reduced_by_places}
+use Rattle.j_eval.specs.Stack.{stack_of}
+use Rattle.j_eval.proofs.Patterns.{reduced_is}
 use Rattle.j_eval.proofs.machine.Machine.reduce.Goals as goal
 
-pub returns-in-Adverb-clause-gives : goal.returns-in-Adverb-clause-gives
-returns-in-Adverb-clause-gives c = rw c.in-Adverb.is (c.modified.ensures.gives (nested c.args.room))
+pub returns-in_err-e-clause-gives : goal.returns-in_err-e-clause-gives
+unfolding reduced_by_places
+returns-in_err-e-clause-gives c = rw (reduced_is (nested c.args.room) c.args.self.now.state c.args.row (stack_of c.args.stack.now.items)) (search rules)
 
-pub returns-in-Conjunction-clause-gives : goal.returns-in-Conjunction-clause-gives
-returns-in-Conjunction-clause-gives c = rw c.in-Conjunction.is (c.joined.ensures.gives (nested c.args.room))
-
-pub returns-in-Fork-clause-gives : goal.returns-in-Fork-clause-gives
-returns-in-Fork-clause-gives c = rw c.in-Fork.is (c.train.ensures.gives (nested c.args.room))
-
-pub returns-in-Bident-clause-gives : goal.returns-in-Bident-clause-gives
-returns-in-Bident-clause-gives c = rw c.in-Bident.is (c.bident.ensures.gives (nested c.args.room))
-
-pub returns-in-Assignment-clause-gives : goal.returns-in-Assignment-clause-gives
-returns-in-Assignment-clause-gives c = rw c.in-Assignment.is (c.assignment.ensures.gives (nested c.args.room))
-
-pub returns-in-Parentheses-clause-gives : goal.returns-in-Parentheses-clause-gives
-returns-in-Parentheses-clause-gives c = rw c.in-Parentheses.is (c.parentheses.ensures.gives (nested c.args.room))
+pub returns-clause-gives : goal.returns-clause-gives
+unfolding reduced_by_places
+returns-clause-gives c = rw (reduced_is (nested c.args.room) c.args.self.now.state c.args.row (stack_of c.args.stack.now.items)) (search rules)
