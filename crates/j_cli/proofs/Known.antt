@@ -26,15 +26,8 @@ took_then o m n xs ys p q = p ∙ (ap (λ k. prepend_known xs k) q ∙ took_twic
 pub grew_prefix : (o m n : Option (List ℕ)) (xs ys : List ℕ) → Grew o m xs → GrewByPrefix m n ys → GrewByPrefix o n (xs ++ ys)
 grew_prefix o m n xs ys p q = (xs ++ q.0, (q.1.0, append_assoc xs q.0 q.1.0 ∙ ap (λ ws. xs ++ ws) q.1.1), grew_then o m n xs q.0 p q.2)
 
-pub prefix_longer : (o n : Option (List ℕ)) (xs ys : List ℕ) → GrewByPrefix o n xs → GrewByPrefix o n (xs ++ ys)
-prefix_longer o n xs ys p = (p.0, (p.1.0 ++ ys, sym (append_assoc p.0 p.1.0 ys) ∙ ap (λ ws. ws ++ ys) p.1.1), p.2)
-
 -- a piece of the list and the next one
 pub take_two : (i k : ℕ) (xs : List ℕ) → take i xs ++ take k (drop i xs) ≡ take (i + k) xs
 take_two i k xs =
     let within : i ≤ i + k = omega arith in
     ap (λ ys. ys ++ take k (drop i xs)) (sym (take-take i (i + k) xs within)) ∙ (ap (λ ys. take i (take (i + k) xs) ++ ys) (sym (drop-take i k xs)) ∙ take-append-drop i (take (i + k) xs))
-
--- nothing is a prefix of anything
-pub prefix_nothing : (o : Option (List ℕ)) (xs : List ℕ) → GrewByPrefix o o xs
-prefix_nothing o xs = ([], (xs, refl), grew_nothing o)

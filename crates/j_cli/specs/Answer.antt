@@ -2,7 +2,7 @@
 use Rattle.std.specs.Prelude.{◌≡◌, ◌⊎◌, ℕ, List, [], ◌∷◌, length, map, nat_le, cond, codes, Option, None, Some, String}
 use Rattle.std.specs.declared.alloc.Global.{Global}
 use Rattle.j_io.specs.Outside.{text_under, IsPrefixOf}
-use Rattle.j_cli.specs.Run.{End, going, stopped, spent, run_after, pieces, start, lines_of}
+use Rattle.j_cli.specs.Run.{End, RunState, Turn, going, stopped, spent, run_after, pieces, start, lines_of}
 
 -- the bytes that are written and the status
 pub record Answer : Type 0 where
@@ -34,15 +34,19 @@ status_of going = 0
 status_of stopped = 3
 status_of spent = 4
 
-abbrev pub answer_to_lines : List (List ℕ) → Answer
-answer_to_lines lines = record { bytes = pieces start lines; status = status_of (run_after start lines).end }
+-- what these lines show in a run, and how it ends
+abbrev pub answer_from : RunState → List (List ℕ) → Answer
+answer_from run lines = record { bytes = pieces run lines; status = status_of (run_after run lines).end }
+
+abbrev pub answer_of : Turn → Answer
+answer_of turn = record { bytes = turn.piece; status = status_of turn.run.end }
 
 -- a text that is too long isn't executed
 abbrev pub answer_too_long : Answer
 answer_too_long = record { bytes = []; status = 7 }
 
 abbrev pub answer_on : List ℕ → Answer
-answer_on text = cond (nat_le (length text) limit) (answer_to_lines (lines_of text)) answer_too_long
+answer_on text = cond (nat_le (length text) limit) (answer_from start (lines_of text)) answer_too_long
 
 abbrev pub answer_to : Option Request → (List ℕ → Option (List ℕ)) → Answer
 answer_to None held = record { bytes = []; status = 2 }

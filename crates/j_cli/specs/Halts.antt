@@ -1,105 +1,65 @@
 -- What a function that may end early did.
-use Rattle.std.specs.Prelude.{◌≡◌, ◌≤◌, ◌+◌, ℕ, List, [], ◌++◌, length, Option, Some, Result, Ok, Err, IsErrOf}
-use Rattle.j_io.specs.Outside.{Rose, Grew, GrewByPrefix, Took}
-use Rattle.j_eval.specs.Meets.{Running}
-use Rattle.j_cli.specs.Run.{End, going, stopped, spent, RunState, run_after, pieces}
-use Rattle.j_cli.specs.Answer.{Answer, limit}
+use Rattle.std.specs.Prelude.{◌≡◌, ◌≤◌, ◌+◌, ℕ, List, length, Option, Result, Ok, Err, IsErrOf}
+use Rattle.j_io.specs.Outside.{Rose, Grew, Took}
+use Rattle.j_eval.specs.Meets.{Running as Machine}
+use Rattle.j_cli.specs.Run.{RunState, going, left_by}
+use Rattle.j_cli.specs.Answer.{Answer, IsAnswer, limit}
+use Rattle.j_cli.specs.declared.halt.WordsHalt.{WordsHalt}
+use Rattle.j_cli.specs.declared.halt.WordsHalt.TheVariants as words
+use Rattle.j_cli.specs.declared.halt.ReadHalt.{ReadHalt}
+use Rattle.j_cli.specs.declared.halt.ReadHalt.TheVariants as read
+use Rattle.j_cli.specs.declared.halt.RunHalt.{RunHalt}
+use Rattle.j_cli.specs.declared.halt.RunHalt.TheVariants as run
 use Rattle.j_cli.specs.declared.halt.Halt.{Halt}
-use Rattle.j_cli.specs.declared.halt.Halt.TheVariants.{NoMemory, Refused, Stopped, Spent, ReadFault, WriteFault, TooLong}
+use Rattle.j_cli.specs.declared.halt.Halt.TheVariants.{Reading, Running}
 
 -- the status of each
-abbrev pub number_of : Halt → ℕ
-number_of NoMemory = 1
-number_of Refused = 2
-number_of Stopped = 3
-number_of Spent = 4
-number_of ReadFault = 5
-number_of WriteFault = 6
-number_of TooLong = 7
+abbrev pub words_status : WordsHalt → ℕ
+words_status words.NoMemory = 1
+words_status words.Refused = 2
+
+abbrev pub read_status : ReadHalt → ℕ
+read_status read.NoMemory = 1
+read_status read.Failed = 5
+read_status read.TooLong = 7
+
+abbrev pub run_status : RunHalt → ℕ
+run_status run.NoMemory = 1
+run_status run.Stopped = 3
+run_status run.Spent = 4
+run_status run.Failed = 6
+
+abbrev pub halt_status : Halt → ℕ
+halt_status (Reading halt) = read_status halt
+halt_status (Running halt) = run_status halt
+
+-- the status of a result, by those of its errors
+abbrev pub status_by : {T E : Type 0} → (E → ℕ) → Result T E → ℕ
+status_by of (Ok value) = 0
+status_by of (Err halt) = of halt
 
 -- the run that a machine is in while it goes on
-abbrev pub run_of : Running → RunState
-run_of m = record { steps = m.state.steps; names = m.state.names; end = going }
+abbrev pub run_of : Machine → RunState
+run_of m = left_by m.state going
 
--- These lines were executed, the pieces were written, and the run is at this end.
-pub record Ran (run : RunState) (lines : List (List ℕ)) (old new : Option (List ℕ)) (at : End) : Type 0 where
-  pub end : (run_after run lines).end ≡ at
-  pub bytes : Grew old new (pieces run lines)
+-- The bytes grew, and by these and the status it is the answer, or the call gave up and they are a prefix of its bytes.
+abbrev pub Answered : Answer → ℕ → Option (List ℕ) → Option (List ℕ) → Type 0
+Answered answer status old new = (written : List ℕ) × Grew old new written × IsAnswer answer status written
 
--- how the execution of these lines halted
-abbrev pub HaltsIn : Halt → RunState → List (List ℕ) → Option (List ℕ) → Option (List ℕ) → Type 0
-HaltsIn NoMemory run lines old new = GrewByPrefix old new (pieces run lines)
-HaltsIn Refused run lines old new = ⊥
-HaltsIn Stopped run lines old new = Ran run lines old new stopped
-HaltsIn Spent run lines old new = Ran run lines old new spent
-HaltsIn ReadFault run lines old new = ⊥
-HaltsIn WriteFault run lines old new = GrewByPrefix old new (pieces run lines)
-HaltsIn TooLong run lines old new = ⊥
-
--- Some bytes were written, others wait, and this holds of them all.
-abbrev pub Handed : Option (List ℕ) → Option (List ℕ) → List ℕ → (List ℕ → Type 0) → Type 0
-Handed old new waiting P = (written : List ℕ) × Grew old new written × P (written ++ waiting)
-
--- how the execution of these lines halted, where the last bytes that they showed wait
-abbrev pub HaltsBatched : Halt → RunState → List (List ℕ) → Option (List ℕ) → Option (List ℕ) → List ℕ → Type 0
-HaltsBatched WriteFault run lines old new waiting = GrewByPrefix old new (pieces run lines)
-HaltsBatched NoMemory run lines old new waiting = Handed old new waiting (λ total. HaltsIn NoMemory run lines (Some []) (Some total))
-HaltsBatched Refused run lines old new waiting = ⊥
-HaltsBatched Stopped run lines old new waiting = Handed old new waiting (λ total. HaltsIn Stopped run lines (Some []) (Some total))
-HaltsBatched Spent run lines old new waiting = Handed old new waiting (λ total. HaltsIn Spent run lines (Some []) (Some total))
-HaltsBatched ReadFault run lines old new waiting = ⊥
-HaltsBatched TooLong run lines old new waiting = ⊥
-
--- how a report was shown, which stops a run
-abbrev pub StopsWith : Halt → List ℕ → Option (List ℕ) → Option (List ℕ) → Type 0
-StopsWith NoMemory piece old new = GrewByPrefix old new piece
-StopsWith Refused piece old new = ⊥
-StopsWith Stopped piece old new = Grew old new piece
-StopsWith Spent piece old new = ⊥
-StopsWith ReadFault piece old new = ⊥
-StopsWith WriteFault piece old new = GrewByPrefix old new piece
-StopsWith TooLong piece old new = ⊥
-
--- the sink's count of faults never falls, and a write fault comes only where it rose
-pub record BlamesWrite {T : Type 0} (before now : ℕ) (result : Result T Halt) : Type 0 where
+-- a count of faults never falls, and this error comes only where it rose
+pub record Blames {T E : Type 0} (before now : ℕ) (result : Result T E) (fault : E) : Type 0 where
   pub later : before ≤ now
-  pub rose : IsErrOf result WriteFault → Rose before now
-
--- the source's count of faults never falls, and a read fault comes only where it rose
-pub record BlamesRead {T : Type 0} (before now : ℕ) (result : Result T Halt) : Type 0 where
-  pub later : before ≤ now
-  pub rose : IsErrOf result ReadFault → Rose before now
-
--- the bytes and the halt are those of the answer, or a prefix of its bytes was written
-abbrev pub HaltsAs : Answer → Halt → Option (List ℕ) → Option (List ℕ) → Type 0
-HaltsAs answer NoMemory old new = GrewByPrefix old new answer.bytes
-HaltsAs answer Refused old new = (answer.status ≡ 2) × Grew old new answer.bytes
-HaltsAs answer Stopped old new = (answer.status ≡ 3) × Grew old new answer.bytes
-HaltsAs answer Spent old new = (answer.status ≡ 4) × Grew old new answer.bytes
-HaltsAs answer ReadFault old new = GrewByPrefix old new answer.bytes
-HaltsAs answer WriteFault old new = GrewByPrefix old new answer.bytes
-HaltsAs answer TooLong old new = (answer.status ≡ 7) × Grew old new answer.bytes
-
--- the same of a result
-abbrev pub EndsAs : {T : Type 0} → Answer → Result T Halt → Option (List ℕ) → Option (List ℕ) → Type 0
-EndsAs answer (Ok value) old new = (answer.status ≡ 0) × Grew old new answer.bytes
-EndsAs answer (Err halt) old new = HaltsAs answer halt old new
+  pub rose : IsErrOf result fault → Rose before now
 
 -- what was read, at most one byte more than the limit
 pub record HasRead (old new : Option (List ℕ)) (text : List ℕ) : Type 0 where
   pub took : Took old new text
   pub most : length text ≤ limit + 1
 
--- what was read where the reading halted: all up to one byte more than the limit where the text is too long
-abbrev pub WasRead : Halt → Option (List ℕ) → Option (List ℕ) → Type 0
-WasRead NoMemory old new = (text : List ℕ) × HasRead old new text
-WasRead Refused old new = ⊥
-WasRead Stopped old new = ⊥
-WasRead Spent old new = ⊥
-WasRead ReadFault old new = (text : List ℕ) × HasRead old new text
-WasRead WriteFault old new = ⊥
-WasRead TooLong old new = (text : List ℕ) × HasRead old new text × (length text ≡ limit + 1)
-
 -- at most one byte more than the limit was read
 abbrev pub ReadWithin : Option (List ℕ) → Option (List ℕ) → Type 0
 ReadWithin old new = (text : List ℕ) × HasRead old new text
+
+-- the text was read up to one byte more than the limit
+abbrev pub ReadBeyond : Option (List ℕ) → Option (List ℕ) → Type 0
+ReadBeyond old new = (text : List ℕ) × HasRead old new text × (length text ≡ limit + 1)

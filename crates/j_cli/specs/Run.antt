@@ -3,8 +3,7 @@ use Rattle.std.specs.Prelude.{ℕ, List, [], ◌∷◌, ◌++◌, Result, Ok, Er
 use Rattle.std.specs.Str.Lines.{lines}
 use Rattle.std.specs.FinMap as map
 use Rattle.j_definitions.specs.declared.Fault.{Fault}
-use Rattle.j_names.specs.Names.{NameMap}
-use Rattle.j_eval.specs.State.{State, Outcome, Gave, Erred, Spent}
+use Rattle.j_verbs.specs.State.{State, Outcome, Gave, Erred, Spent}
 use Rattle.j_explicit.specs.Reading.{reading}
 use Rattle.j_eval.specs.Meaning.{top}
 use Rattle.j_entity.specs.Tree.{EntityTree, WordTree}
@@ -16,58 +15,57 @@ pub data End : Type 0 where
   stopped : End
   spent : End
 
--- the steps counted, the names, and whether the run goes on
+-- the state before the next line, in which nothing is shown, and whether the run goes on
 pub record RunState : Type 0 where
-  pub steps : ℕ
-  pub names : NameMap
+  pub state : State
   pub end : End
 
 -- what one line makes of a run, and the piece that it shows
 pub record Turn : Type 0 where
-  pub state : RunState
+  pub run : RunState
   pub piece : List ℕ
 
 -- most steps
 abbrev pub budget : ℕ
 budget = 100000000
 
--- the state in which a top line begins
-abbrev pub opening : ℕ → NameMap → State
-opening steps names = record { steps = steps; budget = budget; shown = []; names = names }
+-- the run that a sentence leaves
+abbrev pub left_by : State → End → RunState
+left_by s end = record { state = record s { shown = [] }; end = end }
 
 -- what was shown, and then the report of an error
 abbrev pub turn_of : List ℕ → Outcome EntityTree → Turn
-turn_of line (Gave e s) = record { state = record { steps = s.steps; names = s.names; end = going }; piece = s.shown }
-turn_of line (Erred f s) = record { state = record { steps = s.steps; names = s.names; end = stopped }; piece = s.shown ++ report f line }
-turn_of line (Spent s) = record { state = record { steps = s.steps; names = s.names; end = spent }; piece = s.shown }
+turn_of line (Gave e s) = record { run = left_by s going; piece = s.shown }
+turn_of line (Erred f s) = record { run = left_by s stopped; piece = s.shown ++ report f line }
+turn_of line (Spent s) = record { run = left_by s spent; piece = s.shown }
 
 -- a line in a run that goes on; one without words does nothing
-abbrev pub executed : ℕ → NameMap → List ℕ → Result (List WordTree) Fault → Turn
-executed steps names line (Err f) = record { state = record { steps = steps; names = names; end = stopped }; piece = report f line }
-executed steps names line (Ok []) = record { state = record { steps = steps; names = names; end = going }; piece = [] }
-executed steps names line (Ok (w ∷ words)) = turn_of line (top (w ∷ words) (opening steps names))
+abbrev pub executed : State → List ℕ → Result (List WordTree) Fault → Turn
+executed s line (Err f) = record { run = record { state = s; end = stopped }; piece = report f line }
+executed s line (Ok []) = record { run = record { state = s; end = going }; piece = [] }
+executed s line (Ok (w ∷ words)) = turn_of line (top (w ∷ words) s)
 
-abbrev pub turn_at : End → ℕ → NameMap → List ℕ → Turn
-turn_at going steps names line = executed steps names line (reading line)
-turn_at stopped steps names line = record { state = record { steps = steps; names = names; end = stopped }; piece = [] }
-turn_at spent steps names line = record { state = record { steps = steps; names = names; end = spent }; piece = [] }
+abbrev pub turn_at : End → State → List ℕ → Turn
+turn_at going s line = executed s line (reading line)
+turn_at stopped s line = record { run = record { state = s; end = stopped }; piece = [] }
+turn_at spent s line = record { run = record { state = s; end = spent }; piece = [] }
 
 -- One more line. A run that has ended stays as it is and shows nothing.
 unfoldable pub next : RunState → List ℕ → Turn
-next run line = turn_at run.end run.steps run.names line
+next run line = turn_at run.end run.state line
 
 -- the run after these lines
 abbrev pub run_after : RunState → List (List ℕ) → RunState
 run_after run [] = run
-run_after run (line ∷ rest) = run_after (next run line).state rest
+run_after run (line ∷ rest) = run_after (next run line).run rest
 
 -- the pieces that these lines show, joined
 abbrev pub pieces : RunState → List (List ℕ) → List ℕ
 pieces run [] = []
-pieces run (line ∷ rest) = (next run line).piece ++ pieces (next run line).state rest
+pieces run (line ∷ rest) = (next run line).piece ++ pieces (next run line).run rest
 
 abbrev pub start : RunState
-start = record { steps = 0; names = map.empty; end = going }
+start = record { state = record { steps = 0; budget = budget; shown = []; names = map.empty }; end = going }
 
 -- The lines of a text: a line ends before a line feed, and a carriage return directly before that isn't part of it; what stands after the last line feed is a line if it has a byte.
 abbrev pub lines_of : List ℕ → List (List ℕ)

@@ -2,37 +2,28 @@
 ghost use Rattle.std.specs.Prelude.{◌≡◌, ◌⊎◌, ◌≤◌, ℕ, List, None, Some, IfSome, IsSome, IsErrOf, option_map, string_bytes};
 ghost use Rattle.j_io.specs.Outside.{Grew, Rose, text_under};
 ghost use Rattle.j_cli.specs.Answer.{answer, answer_on, request_of, words_of, IsAnswer};
-ghost use Rattle.j_cli.specs.Halts.{BlamesRead, BlamesWrite, EndsAs, ReadWithin};
-ghost use Rattle.j_cli.specs.Top.{number, Reads, Used};
+ghost use Rattle.j_cli.specs.Halts.{Answered, Blames, ReadWithin, halt_status, status_by};
+ghost use Rattle.j_cli.specs.Top.{Reads, Used};
 
-use crate::halt::Halt;
-use crate::lines::run_lines;
+use crate::halt::{Halt, ReadHalt, RunHalt, WordsHalt, status};
+use crate::lines::run_text;
 use crate::reading::read_text;
-use j_eval::Machine;
 use j_io::{Sink, Source};
 use std::alloc::Global;
 
-// Most steps of a run.
-const BUDGET: u64 = 100_000_000;
-
 // Reads the whole text that is selected, and then executes its lines.
-fn run_text<S: Source, K: Sink>(alloc: Global, source: &mut S, sink: &mut K) -> Result<(), Halt>
+fn run_selected<S: Source, K: Sink>(alloc: Global, source: &mut S, sink: &mut K) -> Result<(), Halt>
     requires { IsSome (S.selected source.old) }
-    ensures answer { IfSome (S.left source.old) (λ text. EndsAs (answer_on text) result (K.bytes sink.old) (K.bytes sink.new)) }
-    ensures fault { IsErrOf result Halt.ReadFault → sink.new ≡ sink.old }
-    ensures too_long { IsErrOf result Halt.TooLong → sink.new ≡ sink.old }
+    ensures answer { IfSome (S.left source.old) (λ text. Answered (answer_on text) (status_by halt_status result) (K.bytes sink.old) (K.bytes sink.new)) }
+    ensures unread { (halt : ReadHalt) → IsErrOf result (Halt.Reading halt) → sink.new ≡ sink.old }
     ensures most { ReadWithin (S.left source.old) (S.left source.new) }
     ensures selected { S.selected source.new ≡ S.selected source.old }
     ensures texts { S.texts source.new ≡ S.texts source.old }
-    ensures read { BlamesRead (S.faults source.old) (S.faults source.new) result }
-    ensures write { BlamesWrite (K.faults sink.old) (K.faults sink.new) result }
-    ensures not_refused { IsErrOf result Halt.Refused → ⊥ }
+    ensures read { Blames (S.faults source.old) (S.faults source.new) result (Halt.Reading ReadHalt.Failed) }
+    ensures write { Blames (K.faults sink.old) (K.faults sink.new) result (Halt.Running RunHalt.Failed) }
 {
     let text = read_text(alloc, source)?;
-    let Ok(mut machine) = Machine::new(alloc, BUDGET) else {
-        return Err(Halt::NoMemory);
-    };
-    run_lines(alloc, &mut machine, &text, sink)
+    Ok(run_text(alloc, &text, sink)?)
 }
 
 // Runs the text under a name.
@@ -43,38 +34,27 @@ fn run_file<S: Source, K: Sink>(
     sink: &mut K,
 ) -> Result<(), Halt>
     requires { S.selected source.old ≡ None }
-    ensures answer { IfSome (option_map (text_under (string_bytes file)) (S.texts source.old)) (λ text. EndsAs (answer_on text) result (K.bytes sink.old) (K.bytes sink.new)) }
-    ensures fault { IsErrOf result Halt.ReadFault → sink.new ≡ sink.old }
-    ensures too_long { IsErrOf result Halt.TooLong → sink.new ≡ sink.old }
+    ensures answer { IfSome (option_map (text_under (string_bytes file)) (S.texts source.old)) (λ text. Answered (answer_on text) (status_by halt_status result) (K.bytes sink.old) (K.bytes sink.new)) }
+    ensures unread { (halt : ReadHalt) → IsErrOf result (Halt.Reading halt) → sink.new ≡ sink.old }
     ensures most { ReadWithin (option_map (text_under (string_bytes file)) (S.texts source.old)) (S.left source.new) }
     ensures selected { S.selected source.new ≡ Some (string_bytes file) }
     ensures texts { S.texts source.new ≡ S.texts source.old }
-    ensures read { BlamesRead (S.faults source.old) (S.faults source.new) result }
-    ensures write { BlamesWrite (K.faults sink.old) (K.faults sink.new) result }
-    ensures not_refused { IsErrOf result Halt.Refused → ⊥ }
+    ensures read { Blames (S.faults source.old) (S.faults source.new) result (Halt.Reading ReadHalt.Failed) }
+    ensures write { Blames (K.faults sink.old) (K.faults sink.new) result (Halt.Running RunHalt.Failed) }
 {
     if source.select(file).is_err() {
-        return Err(Halt::ReadFault);
+        return Err(Halt::Reading(ReadHalt::Failed));
     }
-    run_text(alloc, source, sink)
+    run_selected(alloc, source, sink)
 }
 
 // The name of the text that the words ask for. The first word is the program's name.
-fn read_words(alloc: Global, words: &[String]) -> Result<String, Halt>
+fn read_words(alloc: Global, words: &[String]) -> Result<String, WordsHalt>
     ensures { Reads (request_of (words_of words.now)) result }
 {
     match words {
         [] | [_] => Ok(String::from_str(alloc, "-")?),
-        _ => Err(Halt::Refused),
-    }
-}
-
-fn status(outcome: Result<(), Halt>) -> u8
-    ensures { result ≡ number outcome }
-{
-    match outcome {
-        Ok(()) => 0,
-        Err(halt) => halt.status(),
+        _ => Err(WordsHalt::Refused),
     }
 }
 
@@ -115,9 +95,8 @@ pub fn run_command<S: Source, K: Sink>(
     ensures counts { (S.faults source.old ≤ S.faults source.new) × (K.faults sink.old ≤ K.faults sink.new) }
     ensures statuses { result ≤ 7 }
 {
-    let file = match read_words(alloc, words) {
-        Ok(file) => file,
-        Err(halt) => return halt.status(),
-    };
-    status(run_file(alloc, file, source, sink))
+    match read_words(alloc, words) {
+        Ok(file) => status(run_file(alloc, file, source, sink)),
+        Err(halt) => halt.status(),
+    }
 }

@@ -11,4 +11,4 @@ mod running;
 mod writing;
 
 pub use command::run_command;
-pub use rows::{spent_rows, worked_rows};
+pub use rows::{report_rows, spent_rows, worked_rows};

@@ -1,22 +1,21 @@
 // The lines of a text are executed one after another.
-ghost use Rattle.std.specs.Prelude.{◌≡◌, ◌<◌, ◌≤◌, ◌∷◌, [], ℕ, List, Option, Some, OnOk, IsErr, IfErr, IsErrOf, ◌⊎◌, length};
-ghost use Rattle.j_io.specs.Outside.{Rose};
+ghost use Rattle.std.specs.Prelude.{◌≡◌, ◌<◌, ◌≤◌, ◌∷◌, length};
 ghost use Rattle.std.specs.Str.Lines.{strip_carriage_return};
 ghost use Rattle.j_eval.specs.Meets.{ready};
-ghost use Rattle.j_cli.specs.Run.{RunState, budget, going, lines_of};
-ghost use Rattle.j_cli.specs.Answer.{limit};
-ghost use Rattle.j_cli.specs.Halts.{Ran, HaltsIn, Handed, HaltsBatched, BlamesWrite, run_of};
+ghost use Rattle.j_cli.specs.Run.{lines_of, start};
+ghost use Rattle.j_cli.specs.Answer.{limit, answer_from};
+ghost use Rattle.j_cli.specs.Halts.{Answered, Blames, run_of, run_status, status_by};
 
-use crate::halt::Halt;
+use crate::halt::RunHalt;
 use crate::running::execute;
-use crate::writing::hand_on;
 use j_eval::Machine;
 use j_io::Sink;
+use j_noun::Pool;
 use memchr::memchr;
 use std::alloc::Global;
 
-// How many bytes are gathered before they are written.
-const BATCH: usize = 65_536;
+// Most steps of a run.
+const BUDGET: u64 = 100_000_000;
 
 // A line without the carriage return at its end, if it has one.
 fn without_return(line: &[u8]) -> &[u8]
@@ -41,66 +40,34 @@ fn first_line(text: &[u8]) -> (&[u8], &[u8])
     }
 }
 
-// Executes the lines of a text, and writes what they show in large pieces. What isn't written yet is left in `out`.
-fn run_batches<K: Sink>(
-    alloc: Global,
+// Executes the lines of a text one after another.
+fn run_lines<K: Sink>(
+    pool: &mut Pool,
     machine: &mut Machine,
     text: &[u8],
-    out: &mut Vec<u8>,
     sink: &mut K,
-) -> Result<(), Halt>
+) -> Result<(), RunHalt>
     requires ready { machine.old.readiness ≡ ready }
-    requires budget { machine.old.state.budget ≡ budget }
     requires limit { length text.now ≤ limit }
-    requires none { out.old.items ≡ [] }
-    ensures ok { OnOk result (Handed (K.bytes sink.old) (K.bytes sink.new) out.new.items (λ total. Ran (run_of machine.old) (lines_of text.now) (Some []) (Some total) going)) }
-    ensures err { IfErr result (λ halt. HaltsBatched halt (run_of machine.old) (lines_of text.now) (K.bytes sink.old) (K.bytes sink.new) out.new.items) }
-    ensures cause { BlamesWrite (K.faults sink.old) (K.faults sink.new) result }
+    ensures answer { Answered (answer_from (run_of machine.old) (lines_of text.now)) (status_by run_status result) (K.bytes sink.old) (K.bytes sink.new) }
+    ensures cause { Blames (K.faults sink.old) (K.faults sink.new) result RunHalt.Failed }
 {
     let mut rest = text;
     'lines: while !rest.is_empty() {
         let (line, after) = first_line(rest);
-        execute(alloc, machine, line, out)?;
-        if out.len() >= BATCH {
-            hand_on(out, sink)?;
-        }
+        execute(pool, machine, line, sink)?;
         rest = after;
     }
     Ok(())
 }
 
-// Writes the rest of what was shown where the run was halted.
-fn halted<K: Sink>(halt: Halt, out: &mut Vec<u8>, sink: &mut K) -> Result<(), Halt>
-    ensures stops { IsErr result }
-    ensures err { (run : RunState) (lines : List (List ℕ)) (old : Option (List ℕ)) → HaltsBatched halt run lines old (K.bytes sink.old) out.old.items
-        → IfErr result (λ h. HaltsIn h run lines old (K.bytes sink.new)) }
-    ensures later { K.faults sink.old ≤ K.faults sink.new }
-    ensures cause { IsErrOf result Halt.WriteFault → (halt ≡ Halt.WriteFault) ⊎ Rose (K.faults sink.old) (K.faults sink.new) }
+// Executes the lines of a text from the start of a run.
+pub fn run_text<K: Sink>(alloc: Global, text: &[u8], sink: &mut K) -> Result<(), RunHalt>
+    requires { length text.now ≤ limit }
+    ensures answer { Answered (answer_from start (lines_of text.now)) (status_by run_status result) (K.bytes sink.old) (K.bytes sink.new) }
+    ensures cause { Blames (K.faults sink.old) (K.faults sink.new) result RunHalt.Failed }
 {
-    if halt == Halt::WriteFault {
-        return Err(halt);
-    }
-    hand_on(out, sink)?;
-    Err(halt)
-}
-
-// Executes the lines of a text.
-pub fn run_lines<K: Sink>(
-    alloc: Global,
-    machine: &mut Machine,
-    text: &[u8],
-    sink: &mut K,
-) -> Result<(), Halt>
-    requires ready { machine.old.readiness ≡ ready }
-    requires budget { machine.old.state.budget ≡ budget }
-    requires limit { length text.now ≤ limit }
-    ensures ok { OnOk result (Ran (run_of machine.old) (lines_of text.now) (K.bytes sink.old) (K.bytes sink.new) going) }
-    ensures err { IfErr result (λ halt. HaltsIn halt (run_of machine.old) (lines_of text.now) (K.bytes sink.old) (K.bytes sink.new)) }
-    ensures cause { BlamesWrite (K.faults sink.old) (K.faults sink.new) result }
-{
-    let mut out = Vec::new(alloc);
-    match run_batches(alloc, machine, text, &mut out, sink) {
-        Ok(()) => hand_on(&mut out, sink),
-        Err(halt) => halted(halt, &mut out, sink),
-    }
+    let mut machine = Machine::new(alloc, BUDGET)?;
+    let mut pool = Pool::new(alloc);
+    run_lines(&mut pool, &mut machine, text, sink)
 }

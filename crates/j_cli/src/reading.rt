@@ -1,11 +1,11 @@
 // A text is read in pieces, up to a limit.
-ghost use Rattle.std.specs.Prelude.{◌≡◌, ◌≤◌, ◌<◌, ◌+◌, IfOk, IfErr, IsSome, length};
+ghost use Rattle.std.specs.Prelude.{◌≡◌, ◌≤◌, ◌<◌, ◌+◌, IfOk, IsErrOf, IsSome, length};
 ghost use Rattle.std.specs.Io.KnownBytes.{IsAtEnd};
 ghost use Rattle.j_io.specs.Outside.{Took};
 ghost use Rattle.j_cli.specs.Answer.{limit};
-ghost use Rattle.j_cli.specs.Halts.{BlamesRead, WasRead};
+ghost use Rattle.j_cli.specs.Halts.{Blames, ReadBeyond, ReadWithin};
 
-use crate::halt::Halt;
+use crate::halt::ReadHalt;
 use j_io::Source;
 use std::alloc::Global;
 
@@ -30,27 +30,26 @@ pub fn next_size(count: usize) -> usize
 }
 
 // The whole text.
-pub fn read_text<S: Source>(alloc: Global, source: &mut S) -> Result<Vec<u8>, Halt>
+pub fn read_text<S: Source>(alloc: Global, source: &mut S) -> Result<Vec<u8>, ReadHalt>
     requires { IsSome (S.selected source.old) }
     ensures ok { IfOk result (λ text. Took (S.left source.old) (S.left source.new) text.items
         × IsAtEnd (S.left source.new) × length text.items ≤ limit) }
-    ensures err { IfErr result (λ halt. WasRead halt (S.left source.old) (S.left source.new)) }
+    ensures most { ReadWithin (S.left source.old) (S.left source.new) }
+    ensures too_long { IsErrOf result ReadHalt.TooLong → ReadBeyond (S.left source.old) (S.left source.new) }
     ensures selected { S.selected source.new ≡ S.selected source.old }
     ensures texts { S.texts source.new ≡ S.texts source.old }
-    ensures cause { BlamesRead (S.faults source.old) (S.faults source.new) result }
+    ensures cause { Blames (S.faults source.old) (S.faults source.new) result ReadHalt.Failed }
 {
     let mut text = Vec::new(alloc);
     let mut piece = [0; PIECE];
     'pieces: loop {
         let size = next_size(text.len());
-        let Ok(count) = source.read(&mut piece[..size]) else {
-            return Err(Halt::ReadFault);
-        };
+        let count = source.read(&mut piece[..size])?;
         if count == 0 {
             return Ok(text);
         }
         if text.len() == LIMIT {
-            return Err(Halt::TooLong);
+            return Err(ReadHalt::TooLong);
         }
         text.extend_from_slice(&piece[..count])?;
     }

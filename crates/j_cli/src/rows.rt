@@ -1,8 +1,7 @@
 // Rows worked out by hand.
 ghost use Rattle.std.specs.Prelude.{◌≡◌, ◌++◌, ◌∷◌, [], codes};
-ghost use Rattle.std.specs.FinMap as map;
 ghost use Rattle.j_cli.specs.Run.{going, spent, pieces, run_after};
-ghost use Rattle.j_cli.specs.Rows.{run_on, nearly_spent};
+ghost use Rattle.j_cli.specs.Rows.{run_on, at_step, nearly_spent};
 
 /// Laws: rows worked out by hand.
 pub fn worked_rows()
@@ -29,6 +28,8 @@ pub fn worked_rows()
     ensures no_number { run_on (codes "3x" ++ 10 ∷ []) ≡ record { bytes = codes "|ill-formed number" ++ 10 ∷ codes "|   3x" ++ 10 ∷ []; status = 3 } }
     ensures left_out { run_on (codes "%: 4" ++ 10 ∷ []) ≡ record { bytes = codes "|nonce error" ++ 10 ∷ codes "|   %: 4" ++ 10 ∷ []; status = 3 } }
     ensures open_quote { run_on (codes "'abc" ++ 10 ∷ []) ≡ record { bytes = codes "|open quote" ++ 10 ∷ codes "|   'abc" ++ 10 ∷ []; status = 3 } }
+    ensures text { run_on (codes "'it''s'" ++ 10 ∷ []) ≡ record { bytes = codes "it's" ++ 10 ∷ []; status = 0 } }
+    ensures text_negated { run_on (codes "- 'a'" ++ 10 ∷ []) ≡ record { bytes = codes "|domain error" ++ 10 ∷ codes "|   - 'a'" ++ 10 ∷ []; status = 3 } }
     ensures verb_last { run_on (codes "1 2 +" ++ 10 ∷ []) ≡ record { bytes = codes "|syntax error" ++ 10 ∷ codes "|   1 2 +" ++ 10 ∷ []; status = 3 } }
     ensures fork_and_hook { run_on (codes "5 (+ - *) 3" ++ 10 ∷ codes "(+ *) 3" ++ 10 ∷ [])
         ≡ record { bytes = codes "_7" ++ 10 ∷ codes "4" ++ 10 ∷ []; status = 0 } }
@@ -41,11 +42,26 @@ pub fn worked_rows()
         ≡ record { bytes = codes "|spelling error" ++ 10 ∷ codes "|   1" ++ 13 ∷ 10 ∷ []; status = 3 } }
 {}
 
+/// Laws: the text that a report shows of a line, worked out by hand.
+pub fn report_rows()
+    ensures comment { run_on (codes "1 2 + 1 2 3 NB. x" ++ 10 ∷ [])
+        ≡ record { bytes = codes "|length error" ++ 10 ∷ codes "|   1 2 + 1 2 3" ++ 10 ∷ []; status = 3 } }
+    ensures comment_of_no_number { run_on (codes "3x NB. y" ++ 10 ∷ []) ≡ record { bytes = codes "|ill-formed number" ++ 10 ∷ codes "|   3x" ++ 10 ∷ []; status = 3 } }
+    ensures comment_of_no_word { run_on (codes "%: 4 NB. c" ++ 10 ∷ [])
+        ≡ record { bytes = codes "|nonce error" ++ 10 ∷ codes "|   %: 4 NB. c" ++ 10 ∷ []; status = 3 } }
+    ensures comment_in_open_quote { run_on (codes "'a NB. b" ++ 10 ∷ [])
+        ≡ record { bytes = codes "|open quote" ++ 10 ∷ codes "|   'a NB. b" ++ 10 ∷ []; status = 3 } }
+    ensures blanks_around_words { run_on (9 ∷ codes " 1 2 +" ++ 9 ∷ codes " " ++ 10 ∷ [])
+        ≡ record { bytes = codes "|syntax error" ++ 10 ∷ codes "|   1 2 +" ++ 10 ∷ []; status = 3 } }
+    ensures blanks_around_no_word { run_on (codes " " ++ 9 ∷ codes "abc. 4 " ++ 9 ∷ 10 ∷ [])
+        ≡ record { bytes = codes "|spelling error" ++ 10 ∷ codes "|   abc. 4" ++ 10 ∷ []; status = 3 } }
+{}
+
 /// Laws: a run with two steps left, worked out by hand.
 pub fn spent_rows()
     ensures shown_before { pieces nearly_spent (codes "7" ∷ codes "- 5" ∷ codes "8" ∷ []) ≡ codes "7" ++ 10 ∷ [] }
-    ensures spent { run_after nearly_spent (codes "7" ∷ codes "- 5" ∷ codes "8" ∷ []) ≡ record { steps = 100000000; names = map.empty; end = spent } }
-    ensures not_yet_spent { run_after nearly_spent (codes "- 5" ∷ []) ≡ record { steps = 100000000; names = map.empty; end = going } }
+    ensures spent { run_after nearly_spent (codes "7" ∷ codes "- 5" ∷ codes "8" ∷ []) ≡ at_step 100000000 spent }
+    ensures not_yet_spent { run_after nearly_spent (codes "- 5" ∷ []) ≡ at_step 100000000 going }
     ensures without_words { pieces nearly_spent (codes "- 5" ∷ codes "  " ∷ codes "8" ∷ []) ≡ codes "_5" ++ 10 ∷ [] }
     ensures error_unspent { pieces nearly_spent (codes "- 5" ∷ codes "abc. 4" ∷ []) ≡ codes "_5" ++ 10 ∷ codes "|spelling error" ++ 10 ∷ codes "|   abc. 4" ++ 10 ∷ [] }
 {}

@@ -1,71 +1,82 @@
-// A line is executed, and what it shows is gathered.
-ghost use Rattle.std.specs.Prelude.{◌≡◌, ◌≤◌, ◌∷◌, [], Some, OnOk, IsErr, IfErr, IsErrOf, length};
+// A line is executed, and what it shows is written.
+ghost use Rattle.std.specs.Prelude.{◌≡◌, ◌≤◌, ◌++◌, OnOk, IsErr, length};
 ghost use Rattle.j_io.specs.Outside.{Grew};
 ghost use Rattle.j_eval.specs.Meets.{ready};
-ghost use Rattle.j_cli.specs.Run.{budget, going, run_after};
-ghost use Rattle.j_cli.specs.Answer.{limit};
-ghost use Rattle.j_cli.specs.Halts.{Ran, HaltsIn, StopsWith, run_of};
+ghost use Rattle.j_cli.specs.Run.{next};
+ghost use Rattle.j_cli.specs.Answer.{limit, answer_of};
+ghost use Rattle.j_cli.specs.Halts.{Answered, Blames, run_of, run_status, status_by};
 ghost use Rattle.j_cli.specs.Report.{report};
 
-use crate::halt::Halt;
-use crate::report::report;
+use crate::halt::RunHalt;
+use crate::report::reported;
+use crate::writing::write_all;
 use j_eval::{LineFault, Machine, Outcome, prepare};
-use j_noun::Fault;
-use std::alloc::Global;
+use j_io::Sink;
+use j_noun::{Fault, Pool};
 
-// Appends a piece to what is to be written.
-fn append(out: &mut Vec<u8>, piece: &[u8]) -> Result<(), Halt>
-    ensures ok { OnOk result (Grew (Some out.old.items) (Some out.new.items) piece.now) }
-    ensures err { IfErr result (λ halt. (halt ≡ Halt.NoMemory) × (out.new.items ≡ out.old.items)) }
-{
-    match out.extend_from_slice(piece) {
-        Ok(()) => Ok(()),
-        Err(_) => Err(Halt::NoMemory),
-    }
-}
-
-// Appends the report of an error, which stops the run.
-fn stop(alloc: Global, fault: Fault, line: &[u8], out: &mut Vec<u8>) -> Result<(), Halt>
+// Writes what was shown and the report of an error, which stops the run.
+fn stop<K: Sink>(
+    pool: &mut Pool,
+    shown: &[u8],
+    fault: Fault,
+    line: &[u8],
+    sink: &mut K,
+) -> Result<(), RunHalt>
+    requires { length line.now ≤ limit }
     ensures stops { IsErr result }
-    ensures err { IfErr result (λ halt. StopsWith halt (report fault line.now) (Some out.old.items) (Some out.new.items)) }
-    ensures unwritten { IsErrOf result Halt.WriteFault → ⊥ }
+    ensures piece { Answered (record { bytes = shown.now ++ report fault line.now; status = 3 }) (status_by run_status result) (K.bytes sink.old) (K.bytes sink.new) }
+    ensures cause { Blames (K.faults sink.old) (K.faults sink.new) result RunHalt.Failed }
 {
-    let text = report(alloc, fault, line)?;
-    append(out, &text)?;
-    Err(Halt::Stopped)
+    let piece = reported(pool, shown, fault, line)?;
+    write_all(sink, &piece)?;
+    Err(RunHalt::Stopped)
 }
 
-// Executes one line.
-pub fn execute(
-    alloc: Global,
+// Writes what was shown before the steps were spent.
+fn spend<K: Sink>(shown: &[u8], sink: &mut K) -> Result<(), RunHalt>
+    ensures stops { IsErr result }
+    ensures piece { Answered (record { bytes = shown.now; status = 4 }) (status_by run_status result) (K.bytes sink.old) (K.bytes sink.new) }
+    ensures cause { Blames (K.faults sink.old) (K.faults sink.new) result RunHalt.Failed }
+{
+    write_all(sink, shown)?;
+    Err(RunHalt::Spent)
+}
+
+// Writes what was shown, and the run goes on.
+fn show<K: Sink>(shown: &[u8], sink: &mut K) -> Result<(), RunHalt>
+    ensures piece { Answered (record { bytes = shown.now; status = 0 }) (status_by run_status result) (K.bytes sink.old) (K.bytes sink.new) }
+    ensures cause { Blames (K.faults sink.old) (K.faults sink.new) result RunHalt.Failed }
+{
+    Ok(write_all(sink, shown)?)
+}
+
+// Executes one line, and writes what it shows.
+pub fn execute<K: Sink>(
+    pool: &mut Pool,
     machine: &mut Machine,
     line: &[u8],
-    out: &mut Vec<u8>,
-) -> Result<(), Halt>
+    sink: &mut K,
+) -> Result<(), RunHalt>
     requires ready { machine.old.readiness ≡ ready }
-    requires budget { machine.old.state.budget ≡ budget }
     requires limit { length line.now ≤ limit }
     ensures ready { OnOk result (machine.new.readiness ≡ ready) }
-    ensures budget { OnOk result (machine.new.state.budget ≡ budget) }
-    ensures ok { OnOk result ((run_of machine.new ≡ run_after (run_of machine.old) (line.now ∷ []))
-        × Ran (run_of machine.old) (line.now ∷ []) (Some out.old.items) (Some out.new.items) going) }
-    ensures err { IfErr result (λ halt. HaltsIn halt (run_of machine.old) (line.now ∷ []) (Some out.old.items) (Some out.new.items)) }
-    ensures unwritten { IsErrOf result Halt.WriteFault → ⊥ }
+    ensures run { OnOk result (run_of machine.new ≡ (next (run_of machine.old) line.now).run) }
+    ensures answer { Answered (answer_of (next (run_of machine.old) line.now)) (status_by run_status result) (K.bytes sink.old) (K.bytes sink.new) }
+    ensures cause { Blames (K.faults sink.old) (K.faults sink.new) result RunHalt.Failed }
 {
-    let sentence = match prepare(alloc, line) {
+    let alloc = pool.alloc();
+    let sentence = match prepare(alloc, pool, line) {
         Ok(sentence) => sentence,
-        Err(LineFault::NoMemory) => return Err(Halt::NoMemory),
-        Err(LineFault::Fault(fault)) => return stop(alloc, fault, line, out),
+        Err(LineFault::NoMemory) => return Err(RunHalt::NoMemory),
+        Err(LineFault::Fault(fault)) => return stop(pool, b"", fault, line, sink),
     };
     if sentence.count() == 0 {
         return Ok(());
     }
-    let outcome = machine.sentence(&sentence);
-    append(out, machine.shown())?;
-    match outcome {
-        Outcome::Value(_) => Ok(()),
-        Outcome::Failed(fault) => stop(alloc, fault, line, out),
-        Outcome::Spent => Err(Halt::Spent),
-        Outcome::NoMemory => Err(Halt::NoMemory),
+    match machine.sentence(&sentence) {
+        Outcome::Value(_) => show(machine.shown(), sink),
+        Outcome::Failed(fault) => stop(pool, machine.shown(), fault, line, sink),
+        Outcome::Spent => spend(machine.shown(), sink),
+        Outcome::NoMemory => Err(RunHalt::NoMemory),
     }
 }
