@@ -36,4 +36,22 @@ pub fn run_in_memory(
 }
 
 #[cfg(test)]
-mod tests;
+mod chains;
+#[cfg(test)]
+mod faults;
+#[cfg(test)]
+mod limits;
+#[cfg(test)]
+mod modifiers;
+#[cfg(test)]
+mod outside;
+#[cfg(test)]
+mod runs;
+#[cfg(test)]
+mod scripts;
+#[cfg(test)]
+mod sentences;
+#[cfg(test)]
+mod trains;
+#[cfg(test)]
+mod values;

@@ -1,5 +1,6 @@
 // Steps of sentences with names, worked out by hand.
 use j_eval::{Machine, Outcome, prepare};
+use j_noun::Pool;
 use std::alloc::Global;
 use std::process::Abort;
 use std::test::Fail;
@@ -13,11 +14,14 @@ fn run(
     shown: &str,
 ) -> Result<(bool, u64, bool), Fail> {
     let mut machine = Machine::new(alloc, budget).ok().ok_or("a machine")?;
+    let mut pool = Pool::new(alloc);
     let mut spent = false;
     for line in lines.split('\n') {
         assert!(rt; !spent);
         assert!(rt; line.len() <= 16_777_216);
-        let sentence = prepare(alloc, line.as_bytes()).ok().ok_or("a sentence")?;
+        let sentence = prepare(alloc, &mut pool, line.as_bytes())
+            .ok()
+            .ok_or("a sentence")?;
         assert!(rt; sentence.count() > 0);
         let outcome = machine.sentence(&sentence);
         spent = matches!(&outcome, Outcome::Spent);

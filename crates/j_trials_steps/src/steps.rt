@@ -1,5 +1,6 @@
 // Steps of sentences, worked out by hand.
 use j_eval::{Entity, Machine, Outcome, prepare};
+use j_noun::Pool;
 use std::alloc::Global;
 use std::process::Abort;
 use std::test::Fail;
@@ -13,7 +14,8 @@ fn counted(
 ) -> Result<(bool, u64, bool), Fail> {
     let line = sentence.as_bytes();
     assert!(rt; line.len() <= 16_777_216);
-    let prepared = prepare(alloc, line).ok().ok_or("a sentence")?;
+    let mut pool = Pool::new(alloc);
+    let prepared = prepare(alloc, &mut pool, line).ok().ok_or("a sentence")?;
     assert!(rt; prepared.count() > 0);
     let mut machine = Machine::new(alloc, budget).ok().ok_or("a machine")?;
     let outcome = machine.sentence(&prepared);
@@ -83,20 +85,21 @@ fn steps(rt: HostRuntime) -> Result<(), Fail> {
 fn machine_counts_steps(rt: HostRuntime) -> Result<(), Fail> {
     let alloc = rt.alloc();
     let mut machine = Machine::new(alloc, 5).ok().ok_or("a machine")?;
+    let mut pool = Pool::new(alloc);
     let lines: [(&[u8], &[u8], u64); 2] = [
         (b"2 * 3 4 - 1", b"4 6\n", 3),
         (b"- 5 _6", b"_5 6\n", 5),
     ];
     for (line, shown, steps) in &lines {
         assert!(rt; line.len() <= 16_777_216);
-        let sentence = prepare(alloc, line).ok().ok_or("a sentence")?;
+        let sentence = prepare(alloc, &mut pool, line).ok().ok_or("a sentence")?;
         assert!(rt; sentence.count() > 0);
         let outcome = machine.sentence(&sentence);
         assert!(rt; matches!(&outcome, Outcome::Value(Entity::Noun(_))));
         assert_eq!(rt; machine.shown(), *shown);
         assert_eq!(rt; machine.steps(), *steps);
     }
-    let sentence = prepare(alloc, b"7").ok().ok_or("a sentence")?;
+    let sentence = prepare(alloc, &mut pool, b"7").ok().ok_or("a sentence")?;
     assert!(rt; sentence.count() > 0);
     for _ in 0..2 {
         let outcome = machine.sentence(&sentence);

@@ -1,5 +1,7 @@
-//! The tests of words: lines with the spans and the classes of their words, and number words.
+//! The tests of words, number words and nouns: lines with the spans and the classes of their words, and nouns of each shape.
 #![tactic(auto)]
 
 #[cfg(test)]
 mod lines;
+#[cfg(test)]
+mod nouns;

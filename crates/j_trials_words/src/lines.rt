@@ -1,5 +1,6 @@
 // Lines with their spans and classes, worked out by hand.
 use j_numbers::{Digits, Literal, NumberFault, RankPart, print, read_list, read_noun};
+use j_pool::Pool;
 use j_words::{Class, Word, WordFault, spans, words};
 use std::alloc::{AllocError, Global};
 use std::process::Abort;
@@ -52,9 +53,10 @@ fn rendered(alloc: Global, answer: Result<Vec<Word>, WordFault>) -> Result<Vec<u
 fn check(rt: &impl Abort, alloc: Global, row: (&[u8], &[u8], &[u8])) -> Result<(), Fail> {
     let (line, by_form, by_word) = row;
     assert!(rt; line.len() <= 16_777_216);
-    let found = rendered(alloc, spans(alloc, line))?;
+    let mut pool = Pool::new(alloc);
+    let found = rendered(alloc, spans(&mut pool, line))?;
     assert_eq!(rt; found.as_slice(), by_form, "the spans of a line");
-    let found = rendered(alloc, words(alloc, line))?;
+    let found = rendered(alloc, words(&mut pool, line))?;
     assert_eq!(rt; found.as_slice(), by_word, "the words of a line");
     Ok(())
 }
@@ -138,14 +140,14 @@ fn comments_and_texts(rt: HostRuntime) -> Result<(), Fail> {
         (b"NB..", b"M0-4 ", b"spelling"),
         (b"NB 1", b"M0-2 N3-4 ", b"M0-2 N3-4 "),
         (b"aNB. 1", b"M0-4 N5-6 ", b"spelling"),
-        (b"'it''s'", b"T0-7 ", b"nonce"),
-        (b"''", b"T0-2 ", b"nonce"),
-        (b"''''", b"T0-4 ", b"nonce"),
-        (b"'abc'''", b"T0-7 ", b"nonce"),
-        (b"'a''b' 1", b"T0-6 N7-8 ", b"nonce"),
-        (b"'NB. 1'", b"T0-7 ", b"nonce"),
-        (b"'\x80'", b"T0-3 ", b"nonce"),
-        (b"1 2'x'", b"N0-3 T3-6 ", b"nonce"),
+        (b"'it''s'", b"T0-7 ", b"T0-7 "),
+        (b"''", b"T0-2 ", b"T0-2 "),
+        (b"''''", b"T0-4 ", b"T0-4 "),
+        (b"'abc'''", b"T0-7 ", b"T0-7 "),
+        (b"'a''b' 1", b"T0-6 N7-8 ", b"T0-6 N7-8 "),
+        (b"'NB. 1'", b"T0-7 ", b"T0-7 "),
+        (b"'\x80'", b"T0-3 ", b"T0-3 "),
+        (b"1 2'x'", b"N0-3 T3-6 ", b"N0-3 T3-6 "),
         (b"'abc", b"open quote", b"open quote"),
         (b"'", b"open quote", b"open quote"),
         (b"'''", b"open quote", b"open quote"),
@@ -160,14 +162,14 @@ fn comments_and_texts(rt: HostRuntime) -> Result<(), Fail> {
 #[test]
 fn vocabulary(rt: HostRuntime) -> Result<(), Fail> {
     let alloc = rt.alloc();
-    let rows: [(&[u8], &[u8], &[u8]); 22] = [
+    let rows: [(&[u8], &[u8], &[u8]); 23] = [
         (b"abc.", b"M0-4 ", b"spelling"),
         (b"a.b", b"U0-2 M2-3 ", b"nonce"),
         (b"a: a.", b"U0-2 U3-5 ", b"nonce"),
         (b"i.1", b"V0-2 N2-3 ", b"nonce"),
         (b"i: I.", b"V0-2 V3-5 ", b"nonce"),
         (b"e. ~. ~:", b"V0-2 V3-5 V6-8 ", b"nonce"),
-        (b"~", b"A0-1 ", b"nonce"),
+        (b"+~", b"V0-1 A1-2 ", b"V0-1 A1-2 "),
         (b"+/1 2", b"V0-1 A1-2 N2-5 ", b"nonce"),
         (b"/. /:", b"A0-2 V3-5 ", b"nonce"),
         (b"\\ \\. \\:", b"A0-1 A2-4 V5-7 ", b"nonce"),
@@ -176,7 +178,12 @@ fn vocabulary(rt: HostRuntime) -> Result<(), Fail> {
         (b"{::", b"M0-3 ", b"nonce"),
         (b"{:.", b"M0-3 ", b"spelling"),
         (b"\" \": \".", b"J0-1 V2-4 M5-7 ", b"nonce"),
-        (b"@ & &: &. ^:", b"J0-1 J2-3 J4-6 J7-9 J10-12 ", b"nonce"),
+        (b"&.", b"J0-2 ", b"nonce"),
+        (
+            b"\" @ & &: ^:",
+            b"J0-1 J2-3 J4-5 J6-8 J9-11 ",
+            b"J0-1 J2-3 J4-5 J6-8 J9-11 ",
+        ),
         (b"@. &.: ` `:", b"M0-2 M3-6 M7-8 M9-11 ", b"nonce"),
         (b"; ;: ;.", b"V0-1 V2-4 J5-7 ", b"nonce"),
         (b", ,. ,:", b"V0-1 V2-4 V5-7 ", b"nonce"),
@@ -185,7 +192,7 @@ fn vocabulary(rt: HostRuntime) -> Result<(), Fail> {
         (
             b"< <. <: > >. >:",
             b"V0-1 V2-4 V5-7 V8-9 V10-12 V13-15 ",
-            b"nonce",
+            b"V0-1 V2-4 V5-7 V8-9 V10-12 V13-15 ",
         ),
     ];
     for row in &rows {
@@ -201,7 +208,7 @@ fn left_out_and_faulty(rt: HostRuntime) -> Result<(), Fail> {
         (
             b"% ^ = +. +: *. *: -. -:",
             b"V0-1 V2-3 V4-5 V6-8 V9-11 V12-14 V15-17 V18-20 V21-23 ",
-            b"nonce",
+            b"V0-1 V2-3 V4-5 V6-8 V9-11 V12-14 V15-17 V18-20 V21-23 ",
         ),
         (b"+.:", b"M0-3 ", b"spelling"),
         (b": ::", b"J0-1 J2-4 ", b"nonce"),
@@ -237,7 +244,8 @@ fn left_out_and_faulty(rt: HostRuntime) -> Result<(), Fail> {
 #[test]
 fn number_words(rt: HostRuntime) -> Result<(), Fail> {
     let alloc = rt.alloc();
-    let literal = read_list(alloc, b"1 _ 2e1").ok().ok_or("ranks")?;
+    let mut pool = Pool::new(alloc);
+    let literal = read_list(&mut pool, b"1 _ 2e1").ok().ok_or("ranks")?;
     let expected = [
         RankPart::Number(1),
         RankPart::Infinite,
@@ -247,10 +255,13 @@ fn number_words(rt: HostRuntime) -> Result<(), Fail> {
         Literal::Ranks(ranks) => assert_eq!(rt; ranks.parts(), expected.as_slice()),
         Literal::Noun(_) => return Err(Fail::from("a noun")),
     }
-    let literal = read_list(alloc, b"16b1f 7").ok().ok_or("a noun")?;
+    let literal = read_list(&mut pool, b"16b1f 7").ok().ok_or("a noun")?;
     assert!(rt; matches!(&literal, Literal::Noun(noun) if noun.tally() == 2));
-    assert!(rt; matches!(read_list(alloc, b"_ 1e19"), Err(NumberFault::Overflow)));
-    assert!(rt; matches!(read_noun(alloc, b"_ 1e19"), Err(NumberFault::IllFormed)));
-    assert_eq!(rt; read_noun(alloc, b"16b1f").ok().ok_or("a noun")?.tally(), 1);
+    assert!(rt; matches!(read_list(&mut pool, b"_ 1e19"), Err(NumberFault::Overflow)));
+    assert!(rt; matches!(read_noun(&mut pool, b"_ 1e19"), Err(NumberFault::IllFormed)));
+    assert_eq!(rt;
+        read_noun(&mut pool, b"16b1f").ok().ok_or("a noun")?.tally(),
+        1
+    );
     Ok(())
 }

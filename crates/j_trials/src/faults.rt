@@ -96,7 +96,7 @@ fn errors_of_form(rt: HostRuntime) -> Result<(), Fail> {
         ("", "f__ 1", "spelling"),
         ("", "f_z_ =: 3", "nonce"),
         ("", "f__z 1", "nonce"),
-        ("", "f =: 'abc'", "nonce"),
+        ("", "'f' =: 5", "nonce"),
         ("", "f =: a.", "nonce"),
         ("", "f =: 1e19", "overflow"),
     ];

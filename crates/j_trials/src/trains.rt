@@ -1,5 +1,5 @@
 // Trains of every length, `[:` and nouns in forks, worked out by hand.
-use crate::runs::show;
+use crate::runs::show_rows;
 use std::test::Fail;
 
 #[test]
@@ -54,7 +54,7 @@ fn trains_of_two_to_five(rt: HostRuntime) -> Result<(), Fail> {
         // (* y) + (3 * (- y)), in lists
         ("(* + 3 * -) 4 _2", "_11 5"),
     ];
-    show(&rt, alloc, &rows)
+    show_rows(&rt, alloc, &rows)
 }
 
 #[test]
@@ -100,7 +100,7 @@ fn trains_of_six_to_nine(rt: HostRuntime) -> Result<(), Fail> {
         // (x - y) - (4 + (x * 2)), that is 7 - 22
         ("9 (- - 4 + [ * 2:) 2", "_15"),
     ];
-    show(&rt, alloc, &rows)
+    show_rows(&rt, alloc, &rows)
 }
 
 #[test]
@@ -136,5 +136,5 @@ fn caps_and_noun_forks(rt: HostRuntime) -> Result<(), Fail> {
         ("1 2 9: 3 4 5", "9"),
         ("(0: + 3: * _4:) 1 2", "_12"),
     ];
-    show(&rt, alloc, &rows)
+    show_rows(&rt, alloc, &rows)
 }

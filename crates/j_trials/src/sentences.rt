@@ -1,5 +1,5 @@
 // Operators, parentheses, faults and heights: sentences with what they show, worked out by hand.
-use crate::runs::{fail, run, show};
+use crate::runs::{fail_rows, repeated, run, show_rows};
 use std::alloc::Global;
 use std::test::Fail;
 
@@ -49,7 +49,7 @@ fn operators_and_parentheses(rt: HostRuntime) -> Result<(), Fail> {
         ("1 + + 2", "3"),
         ("- - - 5", "_5"),
     ];
-    show(&rt, alloc, &rows)
+    show_rows(&rt, alloc, &rows)
 }
 
 #[test]
@@ -88,7 +88,7 @@ fn faults_of_form(rt: HostRuntime) -> Result<(), Fail> {
         ("=:", "syntax"),
         ("+ =: 4", "syntax"),
     ];
-    fail(&rt, alloc, &rows)
+    fail_rows(&rt, alloc, &rows)
 }
 
 #[test]
@@ -126,23 +126,14 @@ fn faults_in_order(rt: HostRuntime) -> Result<(), Fail> {
         ("3 =: (4", "syntax"),
         // a word that can't be read comes before all
         ("() abc.", "spelling"),
-        ("1e19 + % 3", "nonce"),
+        ("1e19 + $ 3", "nonce"),
         ("1e19 + f", "overflow"),
         ("f + 1e19", "overflow"),
         ("() 1e19", "overflow"),
         ("3 =: f", "domain"),
         ("1 2 + 1 2 3 + f_z_", "nonce"),
     ];
-    fail(&rt, alloc, &rows)
-}
-
-// So many times a text.
-fn repeated(alloc: Global, text: &[u8], count: usize) -> Result<Vec<u8>, Fail> {
-    let mut all = Vec::new(alloc);
-    for _ in 0..count {
-        all.extend_from_slice(text)?;
-    }
-    Ok(all)
+    fail_rows(&rt, alloc, &rows)
 }
 
 // A hook of that height, `((+ -) -) -` and so on, between two texts. Each level changes the sign of the right argument of `+`.
