@@ -1,4 +1,4 @@
-use crate::{format, show};
+use crate::show;
 use j_entity::{Entity, Modifier, Operator, OperatorParts, Parts, Primitive, Verb};
 use j_noun::{Atoms, Fault, Noun, Refusal, Shape};
 use j_pool::Pool;
@@ -43,61 +43,5 @@ fn shows_values(rt: HostRuntime) -> Result<(), Fail> {
     let cube = Noun::make(&mut pool, shape, Atoms::Wholes(atoms));
     let cube = cube.ok().ok_or("no noun")?;
     check(&rt, alloc, &Entity::Noun(cube), b"  1 _2\n\n300  4\n");
-    Ok(())
-}
-
-fn make(pool: &mut Pool, axes: &[usize], atoms: Atoms) -> Result<Noun, Fail> {
-    let mut shape = Shape::new();
-    for n in axes {
-        let Ok(()) = shape.add(*n) else {
-            return Err(Fail::from("no shape"));
-        };
-    }
-    Ok(Noun::make(pool, shape, atoms).ok().ok_or("no noun")?)
-}
-
-#[test]
-fn shows_boxes(rt: HostRuntime) -> Result<(), Fail> {
-    let alloc = rt.alloc();
-    let mut pool = Pool::new(alloc);
-    let table = make(
-        &mut pool,
-        &[2, 2],
-        Atoms::Wholes(vec![in alloc; 0i64, 1, 2, 3]?),
-    )?;
-    let both = Atoms::Boxes(vec![in alloc; table, Noun::character(b'x')]?);
-    let list = make(&mut pool, &[2], both)?;
-    let rows = b"+---+-+\n|0 1|x|\n|2 3| |\n+---+-+\n";
-    check(&rt, alloc, &Entity::Noun(list.duplicate()?), rows);
-    let column = Atoms::Boxes(vec![in alloc; list, Noun::number(7)]?);
-    let tables = make(&mut pool, &[2, 1, 1], column)?;
-    check(
-        &rt,
-        alloc,
-        &Entity::Noun(tables),
-        b"+-------+\n|+---+-+|\n||0 1|x||\n||2 3| ||\n|+---+-+|\n+-------+\n\n+-------+\n|7      |\n+-------+\n",
-    );
-    Ok(())
-}
-
-#[test]
-fn formats(rt: HostRuntime) -> Result<(), Fail> {
-    let alloc = rt.alloc();
-    let mut pool = Pool::new(alloc);
-    let numbers = make(
-        &mut pool,
-        &[2, 2],
-        Atoms::Wholes(vec![in alloc; 0i64, -1, 20, 3]?),
-    )?;
-    let text = format(&mut pool, &numbers).ok().ok_or("no text")?;
-    let characters = make(
-        &mut pool,
-        &[2, 5],
-        Atoms::Bytes(b" 0 _120  3".to_vec(alloc)?),
-    )?;
-    assert!(rt; text.matches(&characters));
-    let box_of = make(&mut pool, &[], Atoms::Boxes(vec![in alloc; numbers]?))?;
-    let refused = format(&mut pool, &box_of).err().ok_or("formatted")?;
-    assert!(rt; refused == Refusal::Fault(Fault::Nonce));
     Ok(())
 }
