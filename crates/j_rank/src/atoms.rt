@@ -12,7 +12,7 @@ use crate::stored::{copied, filled};
 use j_noun::{Atoms, Kind, NoMemory, Noun, Pool, Shape, View, boxes};
 
 /// The noun in a box.
-fn box_of(pool: &mut Pool, y: &Noun) -> Result<Noun, NoMemory>
+pub fn box_of(pool: &mut Pool, y: &Noun) -> Result<Noun, NoMemory>
     ensures { IfOk result (λ a. a ≡ atom_array BoxedKind (boxed y.now)) }
 {
     let mut held = boxes(pool, 1)?;

@@ -52,8 +52,8 @@ fn widened(pool: &mut Pool, bits: &[u8]) -> Result<Vec<i64>, NoMemory>
     Ok(numbers)
 }
 
-// Appends the numbers of a result.
-fn append_numbers(
+/// Appends the numbers of a result.
+pub fn append_numbers(
     pool: &mut Pool,
     out: &mut Vec<i64>,
     common: &[usize],
@@ -78,8 +78,13 @@ fn append_numbers(
     }
 }
 
-// Appends the characters of a result.
-fn append_bytes(out: &mut Vec<u8>, common: &[usize], size: usize, r: &Noun) -> Result<(), NoMemory>
+/// Appends the characters of a result.
+pub fn append_bytes(
+    out: &mut Vec<u8>,
+    common: &[usize],
+    size: usize,
+    r: &Noun,
+) -> Result<(), NoMemory>
     requires kind { Joins CharacterKind r.now }
     requires rank { length r.now.shape ≤ length common.now }
     requires few { length common.now ≤ 32 }
@@ -90,8 +95,8 @@ fn append_bytes(out: &mut Vec<u8>, common: &[usize], size: usize, r: &Noun) -> R
     append_result(out, &32, common, size, r.axes(), bytes_of(r))
 }
 
-// Appends the boxes of a result, filled with boxes of that noun.
-fn append_nouns(
+/// Appends the boxes of a result, filled with boxes of that noun.
+pub fn append_nouns(
     out: &mut Vec<Noun>,
     fill: &Noun,
     common: &[usize],
@@ -130,8 +135,8 @@ fn gather_wholes(
     Ok(out)
 }
 
-// The bits of a result that is kept as bits.
-fn bits_of(r: &Noun) -> Option<&[u8]>
+/// The bits of a result that is kept as bits.
+pub fn bits_of(r: &Noun) -> Option<&[u8]>
     ensures atoms { IfSome result (λ v. map (λ b. number (pos b)) v.now ≡ r.now.atoms) }
     ensures bits { IfSome result (λ v. All (λ b. b < 2) v.now) }
     ensures noun { IsNoun r.now }

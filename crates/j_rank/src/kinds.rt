@@ -6,7 +6,8 @@ ghost use Rattle.j_rank.specs.Assembly.{same_kind, kinds_with_atoms, joined_kind
 
 use j_noun::{Kind, Noun, View};
 
-fn is_same(a: Kind, b: Kind) -> bool
+/// Whether two kinds are the same.
+pub fn is_same(a: Kind, b: Kind) -> bool
     ensures { result ≡ same_kind a b }
 {
     match a {
@@ -16,7 +17,8 @@ fn is_same(a: Kind, b: Kind) -> bool
     }
 }
 
-fn has_no_atoms(y: &Noun) -> bool
+/// Whether a noun has no atoms.
+pub fn has_no_atoms(y: &Noun) -> bool
     ensures { result ≡ nat_eq (length y.now.atoms) 0 }
 {
     match y.view() {
