@@ -1,0 +1,7 @@
+pub mod ItemLaws
+pub mod PartLaws
+pub mod MadeLaws
+pub mod AxisLaws
+pub mod KeptLaws
+pub mod KeptSteps
+pub mod KeepLaws

@@ -1,0 +1,4 @@
+pub mod ItemPlaces
+pub mod AxisPlaces
+pub mod PlaceRows
+pub mod Axes
