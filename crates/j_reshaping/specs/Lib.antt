@@ -1,0 +1,4 @@
+pub mod Reshaping
+pub mod Axes
+pub mod Steps
+pub mod AxisRows
