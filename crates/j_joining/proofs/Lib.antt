@@ -1,0 +1,5 @@
+pub mod Joinings
+pub mod Beside
+pub mod Laminated
+pub mod Contents
+pub mod Razed

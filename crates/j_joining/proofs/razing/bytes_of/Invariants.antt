@@ -1,0 +1,7 @@
+use Rattle.std.proofs.Common.{◌≡◌, map, take}
+use Rattle.j_definitions.specs.Array.{byte}
+use Rattle.j_joining.specs.Brought.{all_atoms}
+use Rattle.j_joining.proofs.razing.bytes_of.Given as goal
+
+abbrev pub invariant-loop-y : goal.invariant-loop-y
+invariant-loop-y l = map byte l.out.items ≡ all_atoms (take l.y-index l.lists)
