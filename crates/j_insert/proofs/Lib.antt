@@ -1,0 +1,9 @@
+pub mod Reversed
+pub mod Reading
+pub mod Stepping
+pub mod Dividing
+pub mod Ranges
+pub mod Found
+pub mod Digiting
+pub mod Binary
+pub mod Laws
