@@ -1,0 +1,10 @@
+pub mod Picks
+pub mod Runs
+pub mod Nouns
+pub mod Keeping
+pub mod Picked
+pub mod Answered
+pub mod Ranks
+pub mod Grading
+pub mod Lost
+pub mod Alike

@@ -1,0 +1,35 @@
+-- What the crate's own functions of order say.
+use Rattle.std.specs.Prelude.{◌≡◌, ℕ, List, map}
+use Rattle.std.specs.Borrow.{Bor}
+use Rattle.std.specs.declared.cmp.Ordering.{Ordering}
+use Rattle.std.specs.declared.cmp.Reverse.{Reverse}
+use Rattle.std.specs.Ordering.{is_lt, nat_cmp, ordering_then}
+use Rattle.std.specs.Cmp.Lexicographic.{slice_cmp}
+use Rattle.j_search.specs.declared.order.Direction.{Direction}
+use Rattle.j_search.specs.declared.order.Direction.TheVariants.{Up, Down}
+use Rattle.j_search.specs.Sought.{run}
+use Rattle.j_search.specs.Order.{ranked}
+
+-- the order of two runs, and of equal ones that of their places
+abbrev pub run_cmp : {X : Type 0} → (X → X → Ordering) → Direction → ℕ → List X → ℕ → ℕ → Ordering
+run_cmp C Up size xs i j = ordering_then (slice_cmp C (run size xs i) (run size xs j)) (nat_cmp i j)
+run_cmp C Down size xs i j = ordering_then (slice_cmp C (run size xs j) (run size xs i)) (nat_cmp i j)
+
+-- the places of runs in that order
+abbrev pub run_order : {X : Type 0} → (X → X → Ordering) → Direction → ℕ → ℕ → List X → List ℕ
+run_order C d size n xs = ranked (λ i j. is_lt (run_cmp C d size xs i j)) n
+
+-- the places that stand with keys
+abbrev pub places_with : {K : Type 0} → List (K × ℕ) → List ℕ
+places_with {K} keys = map {A = K × ℕ} (λ p. p.1) keys
+
+-- the order of keys, and of equal ones that of their places
+abbrev pub pair_cmp : {K : Type 0} → (K → K → Ordering) → K × ℕ → K × ℕ → Ordering
+pair_cmp C p q = ordering_then (C p.0 q.0) (nat_cmp p.1 q.1)
+
+-- the run of a place stands with it
+abbrev pub IsKeyed : {X : Type 0} → ℕ → List X → Bor (List X) × ℕ → Type 0
+IsKeyed size xs p = p.0.now ≡ run size xs p.1
+
+abbrev pub IsKeyedBack : {X : Type 0} → ℕ → List X → Reverse (Bor (List X)) × ℕ → Type 0
+IsKeyedBack size xs p = p.0.0.now ≡ run size xs p.1

@@ -1,0 +1,22 @@
+//! Search for items, nubs, and items in order.
+#![tactic(auto)]
+
+mod among;
+mod cut;
+mod frames;
+mod grades;
+mod index;
+mod kept;
+mod looking;
+mod nubs;
+mod order;
+mod picking;
+mod rows;
+mod seeking;
+
+pub use cut::CutForm;
+pub use grades::{grade_down, grade_up, sort_down, sort_up};
+pub use index::{index_of, last_index_of, less, match_of, member};
+pub use nubs::{nub, nub_sieve, self_classify};
+pub use order::Direction;
+pub use rows::{worked_classes, worked_grades, worked_nubs, worked_places};

@@ -1,0 +1,108 @@
+// Runs in order.
+ghost use Rattle.std.specs.Prelude.{◌≡◌, ◌<◌, ◌*◌, length, IfOk};
+ghost use Rattle.std.specs.List.{All};
+ghost use Rattle.std.specs.List.Sorted.{IsPermutation, IsSorted};
+ghost use Rattle.j_search.specs.Graded.{run_order, places_with, pair_cmp, IsKeyed, IsKeyedBack};
+ghost use Rattle.j_search.specs.Matching.{places};
+
+use j_noun::{NoMemory, Pool};
+use j_rank::part;
+use std::cmp::Reverse;
+
+/// The order of items.
+#[derive(Clone, Copy, PartialEq, Eq, Debug)]
+pub enum Direction {
+    Up,
+    Down,
+}
+
+// The runs, each with its place.
+fn keyed_up<'a, T>(
+    pool: &mut Pool,
+    all: &'a [T],
+    count: usize,
+    size: usize,
+) -> Result<Vec<(&'a [T], usize)>, NoMemory>
+    requires { length all.now ≡ count * size }
+    ensures places { IfOk result (λ v. places_with v.items ≡ places count) }
+    ensures runs { IfOk result (λ v. All (IsKeyed size all.now) v.items) }
+{
+    let mut keys = pool.fresh(count)?;
+    for k in 0..count {
+        let Ok(()) = keys.push((part(all, k, size), k)) else {
+            return Err(NoMemory);
+        };
+    }
+    Ok(keys)
+}
+
+// The runs, each with its place, where the greatest comes first.
+fn keyed_down<'a, T>(
+    pool: &mut Pool,
+    all: &'a [T],
+    count: usize,
+    size: usize,
+) -> Result<Vec<(Reverse<&'a [T]>, usize)>, NoMemory>
+    requires { length all.now ≡ count * size }
+    ensures places { IfOk result (λ v. places_with v.items ≡ places count) }
+    ensures runs { IfOk result (λ v. All (IsKeyedBack size all.now) v.items) }
+{
+    let mut keys = pool.fresh(count)?;
+    for k in 0..count {
+        let Ok(()) = keys.push((Reverse(part(all, k, size)), k)) else {
+            return Err(NoMemory);
+        };
+    }
+    Ok(keys)
+}
+
+// The keys in order.
+fn sorted<K: Ord + Drop>(keys: Vec<(K, usize)>) -> Result<Vec<(K, usize)>, NoMemory>
+    ensures permutation { IfOk result (λ v. IsPermutation keys.items v.items) }
+    ensures sorted { IfOk result (λ v. IsSorted (pair_cmp K.cmp) v.items) }
+{
+    let mut keys = keys;
+    match keys.sort() {
+        Ok(()) => Ok(keys),
+        Err(_) => Err(NoMemory),
+    }
+}
+
+// The places that stand with keys.
+fn places_with<K: Drop>(pool: &mut Pool, keys: &[(K, usize)]) -> Result<Vec<usize>, NoMemory>
+    ensures { IfOk result (λ v. v.items ≡ places_with keys.now) }
+{
+    let mut places = pool.fresh(keys.len())?;
+    for key in keys {
+        let Ok(()) = places.push(key.1) else {
+            return Err(NoMemory);
+        };
+    }
+    Ok(places)
+}
+
+/// The places of runs in order, equal ones in theirs.
+pub fn graded<T: Ord>(
+    pool: &mut Pool,
+    direction: Direction,
+    all: &[T],
+    count: usize,
+    size: usize,
+) -> Result<Vec<usize>, NoMemory>
+    requires { length all.now ≡ count * size }
+    ensures order { IfOk result (λ v. v.items ≡ run_order T.cmp direction size count all.now) }
+    ensures within { IfOk result (λ v. All (λ k. k < count) v.items) }
+{
+    match direction {
+        Direction::Up => {
+            let keys = keyed_up(pool, all, count, size)?;
+            let ordered = sorted(keys)?;
+            places_with(pool, &ordered)
+        }
+        Direction::Down => {
+            let back = keyed_down(pool, all, count, size)?;
+            let turned = sorted(back)?;
+            places_with(pool, &turned)
+        }
+    }
+}
