@@ -35,7 +35,7 @@ pub fn worked_rows()
     ensures control { words (codes "for_ab.") ≡ Err fault.Nonce }
     ensures no_control { words (codes "for_a_.") ≡ Err fault.Spelling }
     ensures left_throw { words (codes "throw.") ≡ Err fault.Spelling }
-    ensures leftmost { words (codes "$ abc. 'x") ≡ Err fault.Nonce }
+    ensures leftmost { words (codes "%: abc. 'x") ≡ Err fault.Nonce }
     ensures no_byte { words (127 ∷ codes " 'x") ≡ Err fault.Spelling }
     ensures part_letters { words (codes "3x1.5_") ≡ Ok (is_word class.Number 0 6 ∷ []) }
     ensures sentence { words (codes "x=:(+@:-)5") ≡ Ok (is_word class.Name 0 1 ∷ is_word class.Copula 1 3 ∷ is_word class.Open 3 4 ∷ is_word class.Verb 4 5 ∷ is_word class.Conjunction 5 7 ∷ is_word class.Verb 7 8 ∷ is_word class.Close 8 9 ∷ is_word class.Number 9 10 ∷ []) }

@@ -30,19 +30,34 @@ pub(crate) struct Row {
     pub stage: Stage,
 }
 
-pub(crate) const VOCABULARY: [Row; 13] = [
+pub(crate) const VOCABULARY: [Row; 15] = [
     Row {
         words: b"+ - * % ^ | <. >. <: >: +: *: +. *. -. -: < > = ~: [ ] [: _9: _8: _7: _6: _5: _4: _3: _2: _1: 0: 1: 2: 3: 4: 5: 6: 7: 8: 9:",
         class: Class::Verb,
         stage: Stage::Now,
     },
     Row {
-        words: b"~",
+        words: b"$ , ,. ,: # |. |: {. {: }. }: { i. i: I.",
+        class: Class::Verb,
+        stage: Stage::Now,
+    },
+    Row {
+        words: b"e. ~. /: \\: #. #:",
+        class: Class::Verb,
+        stage: Stage::Now,
+    },
+    Row {
+        words: b"a.",
+        class: Class::NounWord,
+        stage: Stage::Now,
+    },
+    Row {
+        words: b"~ /",
         class: Class::Adverb,
         stage: Stage::Now,
     },
     Row {
-        words: b"\" @ @: & &: ^:",
+        words: b"\" @ @: & &: ^: .",
         class: Class::Conjunction,
         stage: Stage::Now,
     },
@@ -62,27 +77,22 @@ pub(crate) const VOCABULARY: [Row; 13] = [
         stage: Stage::Now,
     },
     Row {
-        words: b"$ , ,. ,: ; ;: # |. |: {. {: }. }: { i. i: I. \":",
+        words: b"; ;: \":",
         class: Class::Verb,
         stage: Stage::Later,
     },
     Row {
-        words: b"e. ~. /: \\: #. #:",
-        class: Class::Verb,
-        stage: Stage::Later,
-    },
-    Row {
-        words: b"a. a:",
+        words: b"a:",
         class: Class::NounWord,
         stage: Stage::Later,
     },
     Row {
-        words: b"} / /. \\ \\.",
+        words: b"} /. \\ \\.",
         class: Class::Adverb,
         stage: Stage::Later,
     },
     Row {
-        words: b"&. . ;. : ::",
+        words: b"&. ;. : ::",
         class: Class::Conjunction,
         stage: Stage::Later,
     },
