@@ -2,3 +2,4 @@ pub mod Items
 pub mod Placed
 pub mod Known
 pub mod Texts
+pub mod NounWords

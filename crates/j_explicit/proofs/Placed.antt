@@ -16,7 +16,8 @@ use Rattle.j_numbers.specs.declared.literal.Literal.{Literal}
 use Rattle.j_numbers.specs.declared.literal.Literal.TheVariants as literal
 use Rattle.j_entity.specs.Tree.{WordTree, entity, ranks_word, name, local_copula, global_copula, open_mark, close_mark}
 use Rattle.j_entity.specs.View.{placed, takes_ranks}
-use Rattle.j_explicit.specs.Reading.{noun_item, ranks_item, number_item, text_item, verb_item, adverb_item, conjunction_item, copula_item, name_item, item_as, bytes_of, item_of, read_on, items_of}
+use Rattle.j_explicit.specs.Reading.{noun_item, ranks_item, number_item, text_item, verb_item, noun_word_item, adverb_item, conjunction_item, copula_item, name_item, item_as, bytes_of, item_of, read_on, items_of}
+use Rattle.j_explicit.specs.NounWords.{noun_word}
 use Rattle.j_explicit.specs.Texts.{text}
 
 -- a rank list only where the word before takes it, any other word, or a fault
@@ -50,6 +51,10 @@ adverb_fits : (ranks : Bool) (r : Option Modifier) → Fits ranks (adverb_item r
 adverb_fits ranks (Some m) = tt
 adverb_fits ranks None = tt
 
+noun_word_fits : (ranks : Bool) (r : Option Array) → Fits ranks (noun_word_item r)
+noun_word_fits ranks (Some y) = tt
+noun_word_fits ranks None = tt
+
 conjunction_fits : (ranks : Bool) (r : Option Modifier) → Fits ranks (conjunction_item r)
 conjunction_fits ranks (Some m) = tt
 conjunction_fits ranks None = tt
@@ -75,7 +80,7 @@ item_fits ranks class.Copula bytes = copula_fits ranks bytes
 item_fits ranks class.Open bytes = tt
 item_fits ranks class.Close bytes = tt
 item_fits ranks class.Name bytes = name_fits ranks (name_of bytes)
-item_fits ranks class.NounWord bytes = tt
+item_fits ranks class.NounWord bytes = noun_word_fits ranks (noun_word bytes)
 item_fits ranks class.Control bytes = tt
 
 -- each rank list stands where it may, after a word that takes ranks or one that doesn't

@@ -1,4 +1,5 @@
 pub mod Texts
+pub mod NounWords
 pub mod Reading
 pub mod Refusals
 pub mod Rows

@@ -21,6 +21,7 @@ use Rattle.j_leaves.specs.declared.primitive.Primitive.{Primitive}
 use Rattle.j_leaves.specs.declared.modifier.Modifier.{Modifier}
 use Rattle.j_entity.specs.Tree.{WordTree, primitive, modifier, a_noun, a_verb, an_adverb, a_conjunction, entity, ranks_word, name, local_copula, global_copula, open_mark, close_mark}
 use Rattle.j_entity.specs.View.{takes_ranks}
+use Rattle.j_explicit.specs.NounWords.{noun_word}
 use Rattle.j_explicit.specs.Texts.{text}
 
 -- Want of memory is no line's fault.
@@ -54,6 +55,10 @@ abbrev pub text_item : Result Array Fault → Result WordTree Fault
 text_item (Ok y) = Ok (entity (a_noun y))
 text_item (Err f) = Err f
 
+abbrev pub noun_word_item : Option Array → Result WordTree Fault
+noun_word_item (Some y) = Ok (entity (a_noun y))
+noun_word_item None = Err fault.Spelling
+
 abbrev pub verb_item : Option Primitive → Result WordTree Fault
 verb_item (Some p) = Ok (entity (a_verb (primitive p)))
 verb_item None = Err fault.Spelling
@@ -84,7 +89,7 @@ item_as ranks class.Copula bytes = copula_item bytes
 item_as ranks class.Name bytes = name_item (name_of bytes)
 item_as ranks class.Open bytes = Ok open_mark
 item_as ranks class.Close bytes = Ok close_mark
-item_as ranks class.NounWord bytes = Err fault.Nonce
+item_as ranks class.NounWord bytes = noun_word_item (noun_word bytes)
 item_as ranks class.Control bytes = Err fault.Nonce
 
 -- the bytes of a word

@@ -5,11 +5,13 @@ ghost use Rattle.j_entity.specs.View.{word_of, takes_ranks};
 ghost use Rattle.j_leaves.specs.Names.{name_of};
 ghost use Rattle.j_leaves.specs.Spelling.{primitive_of, modifier_of};
 ghost use Rattle.j_words.specs.Lines.{IsWithin};
-ghost use Rattle.j_explicit.specs.Reading.{number_item, text_item, verb_item, adverb_item, conjunction_item, copula_item, name_item, item_of, bytes_of};
+ghost use Rattle.j_explicit.specs.Reading.{number_item, text_item, noun_word_item, verb_item, adverb_item, conjunction_item, copula_item, name_item, item_of, bytes_of};
+ghost use Rattle.j_explicit.specs.NounWords.{noun_word};
 ghost use Rattle.j_explicit.specs.Texts.{text};
 ghost use Rattle.j_explicit.specs.Refusals.{IsItem, IsExactItem};
 
 use crate::fault::LineFault;
+use crate::noun_words::{read_ace, read_alphabet};
 use crate::text::read_text;
 use j_entity::{Entity, Item, Operator, OperatorTree, Verb};
 use j_leaves::{Modifier, Name, Primitive};
@@ -34,6 +36,16 @@ fn text_item(pool: &mut Pool, bytes: &[u8]) -> Result<Item, LineFault>
     ensures { IsItem (text_item (text bytes.now)) result }
 {
     Ok(Item::Entity(Entity::Noun(read_text(pool, bytes)?)))
+}
+
+fn noun_word_item(pool: &mut Pool, bytes: &[u8]) -> Result<Item, LineFault>
+    ensures { IsItem (noun_word_item (noun_word bytes.now)) result }
+{
+    match bytes {
+        b"a." => Ok(Item::Entity(Entity::Noun(read_alphabet(pool)?))),
+        b"a:" => Ok(Item::Entity(Entity::Noun(read_ace(pool)?))),
+        _ => Err(LineFault::Fault(Fault::Spelling)),
+    }
 }
 
 fn verb_item(bytes: &[u8]) -> Result<Item, Fault>
@@ -113,7 +125,8 @@ pub(crate) fn read_item(
         Class::Name => name_item(alloc, bytes),
         Class::Open => Ok(Item::Open),
         Class::Close => Ok(Item::Close),
-        Class::NounWord | Class::Control => Err(LineFault::Fault(Fault::Nonce)),
+        Class::NounWord => noun_word_item(pool, bytes),
+        Class::Control => Err(LineFault::Fault(Fault::Nonce)),
     }
 }
 

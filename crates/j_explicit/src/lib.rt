@@ -3,6 +3,7 @@
 
 mod fault;
 mod item;
+mod noun_words;
 mod reading;
 mod rows;
 mod text;

@@ -8,8 +8,9 @@ ghost use Rattle.j_words.specs.Vocabulary.{look_up, class_or_name, is_simple_nam
 ghost use Rattle.j_words.specs.declared.Class.TheVariants as class;
 ghost use Rattle.j_leaves.specs.declared.primitive.Primitive.TheVariants as p;
 ghost use Rattle.j_leaves.specs.declared.modifier.Modifier.TheVariants as m;
-ghost use Rattle.j_entity.specs.Tree.{ranks_word, local_copula, global_copula, open_mark, close_mark};
+ghost use Rattle.j_entity.specs.Tree.{a_noun, entity, ranks_word, local_copula, global_copula, open_mark, close_mark};
 ghost use Rattle.j_explicit.specs.Reading.{item_as, items_of, reading};
+ghost use Rattle.j_explicit.specs.NounWords.{ace, alphabet};
 ghost use Rattle.j_explicit.specs.Texts.{halved};
 ghost use Rattle.j_explicit.specs.Rows.{atom, list, character, characters, verb, conjunction, simple};
 
@@ -47,7 +48,9 @@ pub fn worked_rows()
     ensures not_directly { items_of (codes "\"(_") false (is_word class.Conjunction 0 1 ∷ is_word class.Open 1 2 ∷ is_word class.Number 2 3 ∷ []) ≡ Err fault.IllFormed }
     ensures not_elsewhere { reading (codes "+_ 0") ≡ Err fault.IllFormed }
     ensures not_right_of_at { reading (codes "@:_") ≡ Err fault.IllFormed }
-    ensures noun_word { reading (codes "f =: a.") ≡ Err fault.Nonce }
+    ensures alphabet { reading (codes "a =: a.") ≡ Ok (simple (codes "a") ∷ global_copula ∷ entity (a_noun alphabet) ∷ []) }
+    ensures ace { item_as false class.NounWord (codes "a:") ≡ Ok (entity (a_noun ace)) }
+    ensures ace_later { reading (codes "-a:") ≡ Err fault.Nonce }
     ensures control { reading (codes "f =: if.") ≡ Err fault.Nonce }
     ensures letter { reading (codes "1x") ≡ Err fault.IllFormed }
     ensures infinite { reading (codes "1 _") ≡ Err fault.IllFormed }
