@@ -12,6 +12,7 @@ pub use entity::{
 };
 pub use j_leaves::{Modifier, Move, Name, Place, Primitive, Ranks, Text};
 pub use j_noun::{Rank, RankList, RankPart};
+pub use ranks::one_more;
 pub use rows::{height_rows, modifier_rank_rows, rank_rows, sentence_rows};
 pub use tree::{OperatorTree, Tree};
 

@@ -146,7 +146,8 @@ fn list_ranks(l: &[RankPart]) -> Ranks
     }
 }
 
-fn one_more(r: Rank) -> Rank
+/// A rank and one more, where there is such a rank.
+pub fn one_more(r: Rank) -> Rank
     ensures { result ≡ spec.one_more r }
 {
     match r {

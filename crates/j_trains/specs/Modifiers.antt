@@ -79,11 +79,11 @@ power_fault (verb u) (rank_list l) = endless_fault l
 power_fault (verb u) (verb v) = None
 power_fault u v = Some fault.Domain
 
--- `u~`
-abbrev pub passive_fault : OperandTree → Option Fault
-passive_fault (verb u) = None
-passive_fault (noun m) = Some fault.Nonce
-passive_fault (rank_list l) = Some fault.Domain
+-- `u~` and `u/`
+abbrev pub verb_fault : OperandTree → Option Fault
+verb_fault (verb u) = None
+verb_fault (noun m) = Some fault.Nonce
+verb_fault (rank_list l) = Some fault.Domain
 
 -- A word left and right of which operands stand. Some conjunctions aren't formed yet, and an adverb is none.
 abbrev pub conjunction_fault : Modifier → OperandTree → OperandTree → Option Fault
@@ -95,7 +95,7 @@ conjunction_fault m.Appose u v = verbs_fault u v
 conjunction_fault m.PowerOf u v = power_fault u v
 conjunction_fault m.Cut u v = Some fault.Nonce
 conjunction_fault m.Under u v = Some fault.Nonce
-conjunction_fault m.Product u v = Some fault.Nonce
+conjunction_fault m.Product u v = verbs_fault u v
 conjunction_fault m.Adverse u v = Some fault.Nonce
 conjunction_fault m.Monadic u v = Some fault.Nonce
 conjunction_fault m.Insert u v = Some fault.Nonce
@@ -107,8 +107,8 @@ conjunction_fault m.Amend u v = Some fault.Nonce
 
 -- A word right of an operand. Some adverbs aren't formed yet, and a conjunction is none.
 abbrev pub adverb_fault : Modifier → OperandTree → Option Fault
-adverb_fault m.Passive u = passive_fault u
-adverb_fault m.Insert u = Some fault.Nonce
+adverb_fault m.Passive u = verb_fault u
+adverb_fault m.Insert u = verb_fault u
 adverb_fault m.Prefix u = Some fault.Nonce
 adverb_fault m.Suffix u = Some fault.Nonce
 adverb_fault m.Oblique u = Some fault.Nonce

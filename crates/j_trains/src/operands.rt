@@ -138,9 +138,9 @@ fn power_fault(u: &Operand, v: &Operand) -> Option<Fault>
     }
 }
 
-// `u~`.
-fn passive_fault(u: &Operand) -> Option<Fault>
-    ensures { result ≡ spec.passive_fault (operand_of u.now) }
+// `u~` and `u/`.
+fn verb_fault(u: &Operand) -> Option<Fault>
+    ensures { result ≡ spec.verb_fault (operand_of u.now) }
 {
     match u {
         Operand::Verb(_) => None,
@@ -155,12 +155,11 @@ pub fn conjunction_fault(m: Modifier, u: &Operand, v: &Operand) -> Option<Fault>
 {
     match m {
         Modifier::Rank => rank_fault(u, v),
-        Modifier::Atop | Modifier::At | Modifier::Appose => verbs_fault(u, v),
+        Modifier::Atop | Modifier::At | Modifier::Appose | Modifier::Product => verbs_fault(u, v),
         Modifier::Bond => bond_fault(u, v),
         Modifier::PowerOf => power_fault(u, v),
         Modifier::Cut
         | Modifier::Under
-        | Modifier::Product
         | Modifier::Adverse
         | Modifier::Monadic
         | Modifier::Insert
@@ -177,9 +176,8 @@ pub fn adverb_fault(m: Modifier, u: &Operand) -> Option<Fault>
     ensures { result ≡ spec.adverb_fault m (operand_of u.now) }
 {
     match m {
-        Modifier::Passive => passive_fault(u),
-        Modifier::Insert
-        | Modifier::Prefix
+        Modifier::Passive | Modifier::Insert => verb_fault(u),
+        Modifier::Prefix
         | Modifier::Suffix
         | Modifier::Oblique
         | Modifier::Amend

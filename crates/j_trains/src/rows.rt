@@ -118,7 +118,7 @@ pub fn adverb_rows()
     ensures noun_passive { adverb_of (modifier m.Passive) on_five ≡ Err fault.Nonce }
     ensures ranks_passive { adverb_of (modifier m.Passive) (rank_list (part.Infinite ∷ [])) ≡ Err fault.Domain }
     ensures passive_too_high { adverb_of (modifier m.Passive) (verb (tower 64)) ≡ Err fault.Limit }
-    ensures insert { adverb_of (modifier m.Insert) (verb plus) ≡ Err fault.Nonce }
+    ensures insert { adverb_of (modifier m.Insert) (verb plus) ≡ alone m.Insert (verb plus) }
     ensures noun_insert { adverb_of (modifier m.Insert) on_five ≡ Err fault.Nonce }
     ensures prefix { adverb_of (modifier m.Prefix) (verb plus) ≡ Err fault.Nonce }
     ensures noun_prefix { adverb_of (modifier m.Prefix) on_five ≡ Err fault.Nonce }
@@ -129,7 +129,8 @@ pub fn adverb_rows()
     ensures amend { adverb_of (modifier m.Amend) (verb plus) ≡ Err fault.Nonce }
     ensures cut { conjunction_of (modifier m.Cut) (verb plus) (verb minus) ≡ Err fault.Nonce }
     ensures under { conjunction_of (modifier m.Under) (verb plus) (verb minus) ≡ Err fault.Nonce }
-    ensures product { conjunction_of (modifier m.Product) (verb plus) (verb minus) ≡ Err fault.Nonce }
+    ensures product { conjunction_of (modifier m.Product) (verb plus) (verb minus) ≡ joined m.Product (verb plus) (verb minus) }
+    ensures product_of_noun { conjunction_of (modifier m.Product) on_five (verb minus) ≡ Err fault.Domain }
     ensures adverse { conjunction_of (modifier m.Adverse) (verb plus) (verb minus) ≡ Err fault.Nonce }
     ensures monadic { conjunction_of (modifier m.Monadic) (verb plus) (verb minus) ≡ Err fault.Nonce }
 {}
@@ -191,6 +192,7 @@ pub fn operand_tables()
         (row domain domain domain domain domain domain domain domain)
         (row domain domain domain domain domain domain domain domain) }
     ensures passive { said_alone m.Passive ≡ row formed nonce nonce nonce nonce nonce nonce domain }
+    ensures insert { said_alone m.Insert ≡ row formed nonce nonce nonce nonce nonce nonce domain }
 {}
 
 /// Laws: which fault of the right operand of `"` or `^:` comes first, and lists with an infinite part, worked out by hand.
