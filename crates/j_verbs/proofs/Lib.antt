@@ -2,9 +2,11 @@ pub mod Sources
 pub mod CellLaw
 pub mod CellMonad
 pub mod CellDyad
+pub mod FromCells
 pub mod Scalars
 pub mod Answers
 pub mod OnCells
 pub mod Served
 pub mod Pure
 pub mod Corners
+pub mod ItemByItem

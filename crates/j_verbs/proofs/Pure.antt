@@ -7,17 +7,10 @@ use Rattle.j_rank.specs.Assembly.{assemble}
 use Rattle.j_rank.specs.Plans.{Planned}
 use Rattle.j_leaves.specs.declared.ranks.Ranks.{Ranks}
 use Rattle.j_verbs.specs.ByRank.{Doing, Cells, Source, zero_atom, on_pair, fill_result, on_pairs, on_fills, by_pairs, by_source, by_plan, by_ranks, planned_for, source}
+use Rattle.j_verbs.specs.PureCells.{then_pure, else_pure, pairs_answer, fill_answer, fills_answer}
 use Rattle.j_verbs.specs.Laws.{IsPure, PureStaysPure}
 use Rattle.j_verbs.specs.State.{State, Outcome, Run, then_do, else_do, ◌>>=◌, pure, or_fault}
 use Rattle.j_verbs.proofs.CellLaw.{pure_cells}
-
-abbrev then_pure : {A B : Type 0} → Result A Fault → (A → Result B Fault) → Result B Fault
-then_pure (Ok a) go = go a
-then_pure (Err e) go = Err e
-
-abbrev else_pure : {A : Type 0} → Result A Fault → A → Result A Fault
-else_pure (Ok a) b = Ok a
-else_pure (Err e) b = Ok b
 
 then_is : {A B : Type 0} (q : Result A Fault) (go : A → Result B Fault) (s : State) → then_do (or_fault q s) (λ a. or_fault (go a)) ≡ or_fault (then_pure q go) s
 then_is (Ok a) go s = refl
@@ -31,23 +24,22 @@ module _ (h : Option Array → Array → Result Array Fault) where
   abbrev f : Doing
   f a b = or_fault (h a b)
 
-  pairs_pure : (c : Source) → IsPure (on_pairs f c)
-  pairs_pure c = record {
-    answer = then_pure (in_order (map (λ (p : Cells). h p.0 p.1) c.pairs)) (assemble c.frame);
-    is = λ s. ap (λ (o : Outcome (List Array)). then_do o (λ rs. or_fault (assemble c.frame rs))) (pure_cells h c.pairs s) ∙ then_is (in_order (map (λ (p : Cells). h p.0 p.1) c.pairs)) (assemble c.frame) s;
-  }
+  pub pairs_are : (c : Source) (s : State) → on_pairs f c s ≡ or_fault (pairs_answer h c) s
+  pairs_are c s =
+      ap (λ (o : Outcome (List Array)). then_do o (λ rs. or_fault (assemble c.frame rs))) (pure_cells h c.pairs s)
+      ∙ then_is (in_order (map (λ (p : Cells). h p.0 p.1) c.pairs)) (assemble c.frame) s
 
-  abbrev fill_answer : Source → Result Array Fault
-  fill_answer c = then_pure c.fills (λ p. h p.0 p.1)
+  pub fills_are : (c : Source) (s : State) → on_fills f c s ≡ or_fault (fills_answer h c) s
+  fills_are c s =
+      ap (λ (o : Outcome Array). then_do (else_do o (pure zero_atom)) (λ r. or_fault (assemble c.frame (r ∷ [])))) (then_is c.fills (λ p. h p.0 p.1) s)
+      ∙ ap (λ (o : Outcome Array). then_do o (λ r. or_fault (assemble c.frame (r ∷ [])))) (else_is (fill_answer h c) zero_atom s)
+      ∙ then_is (else_pure (fill_answer h c) zero_atom) (λ r. assemble c.frame (r ∷ [])) s
+
+  pairs_pure : (c : Source) → IsPure (on_pairs f c)
+  pairs_pure c = record { answer = pairs_answer h c; is = pairs_are c }
 
   fills_pure : (c : Source) → IsPure (on_fills f c)
-  fills_pure c = record {
-    answer = then_pure (else_pure (fill_answer c) zero_atom) (λ r. assemble c.frame (r ∷ []));
-    is = λ s.
-        ap (λ (o : Outcome Array). then_do (else_do o (pure zero_atom)) (λ r. or_fault (assemble c.frame (r ∷ [])))) (then_is c.fills (λ p. h p.0 p.1) s)
-        ∙ ap (λ (o : Outcome Array). then_do o (λ r. or_fault (assemble c.frame (r ∷ [])))) (else_is (fill_answer c) zero_atom s)
-        ∙ then_is (else_pure (fill_answer c) zero_atom) (λ r. assemble c.frame (r ∷ [])) s;
-  }
+  fills_pure c = record { answer = fills_answer h c; is = fills_are c }
 
   source_pure : (ps : List Cells) (c : Source) → IsPure (by_pairs ps f c)
   source_pure [] c = fills_pure c

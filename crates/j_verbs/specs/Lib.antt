@@ -1,5 +1,7 @@
 pub mod State
 pub mod ByRank
+pub mod PureCells
+pub mod Calls
 pub mod Words
 pub mod Answered
 pub mod Laws

@@ -1,10 +1,10 @@
 -- What the verbs that are one word do on one cell or two. Each valence of each of them stands here by its name.
-use Rattle.std.specs.Prelude.{◌≡◌, ℤ, true, Option, Some, None, Result, Ok, Err}
+use Rattle.std.specs.Prelude.{◌≡◌, ℤ, negsuc, true, Option, Some, None, Result, Ok, Err}
 use Rattle.j_definitions.specs.Array.{Array, Atom, number, atom_array}
 use Rattle.j_definitions.specs.Cells.{atom_at}
 use Rattle.j_definitions.specs.declared.Fault.{Fault}
 use Rattle.j_definitions.specs.declared.Fault.TheVariants.{Domain, Nonce}
-use Rattle.j_definitions.specs.declared.Kind.TheVariants.{Number}
+use Rattle.j_definitions.specs.declared.Kind.TheVariants.{Number as NumberKind}
 use Rattle.j_kernels.specs.Scalars.{monad_of, dyad_of, has_monad, has_dyad}
 use Rattle.j_kernels.specs.declared.scalar.Scalar.{Scalar as ScalarVerb}
 use Rattle.j_kernels.specs.declared.scalar.Scalar.TheVariants as scalar
@@ -12,9 +12,16 @@ use Rattle.j_leaves.specs.declared.primitive.Primitive.{Primitive}
 use Rattle.j_leaves.specs.declared.primitive.Primitive.TheVariants as p
 use Rattle.j_leaves.specs.Spelling.{constant}
 use Rattle.j_verbs.specs.State.{pure, fail, or_fault}
-use Rattle.j_verbs.specs.ByRank.{Doing}
+use Rattle.j_verbs.specs.ByRank.{Doing, by_ranks}
+use Rattle.j_verbs.specs.Calls.{of_one, of_two}
+use Rattle.j_verbs.specs.declared.calls.Monad.TheVariants as monad
+use Rattle.j_verbs.specs.declared.calls.Dyad.{Dyad}
+use Rattle.j_verbs.specs.declared.calls.Dyad.TheVariants as dyad
+use Rattle.j_entity.specs.Ranks.{same}
+use Rattle.j_leaves.specs.declared.ranks.Ranks.{Ranks}
+use Rattle.j_noun.specs.declared.ranks.Rank.TheVariants.{Number}
 use Rattle.j_verbs.specs.declared.table.Valence.{Valence}
-use Rattle.j_verbs.specs.declared.table.Valence.TheVariants.{Scalar, LeftArgument, RightArgument, Constant, LeftOut, Absent, Later}
+use Rattle.j_verbs.specs.declared.table.Valence.TheVariants.{Scalar, OnOne, OnTwo, ByItems, LeftArgument, RightArgument, Constant, LeftOut, Absent, Later}
 use Rattle.j_verbs.specs.declared.table.Valences.{Valences}
 
 -- the valence for a monad and for a dyad
@@ -40,35 +47,35 @@ valences p.Double = both (Scalar scalar.Double)
 valences p.Square = both (Scalar scalar.Square)
 valences p.Or = each LeftOut (Scalar scalar.Or)
 valences p.And = each LeftOut (Scalar scalar.And)
-valences p.Not = each (Scalar scalar.Not) Later
-valences p.Halve = each (Scalar scalar.Halve) Later
+valences p.Not = each (Scalar scalar.Not) (OnTwo dyad.Less)
+valences p.Halve = each (Scalar scalar.Halve) (OnTwo dyad.Match)
 valences p.Less = each Later (Scalar scalar.Less)
 valences p.Greater = each Later (Scalar scalar.Greater)
-valences p.Equal = each Later (Scalar scalar.Equal)
-valences p.NotEqual = each Later (Scalar scalar.NotEqual)
-valences p.Nub = each Later Absent
-valences p.Shape = both Later
-valences p.Ravel = both Later
-valences p.RavelItems = both Later
-valences p.Itemize = both Later
+valences p.Equal = each (OnOne monad.SelfClassify) (Scalar scalar.Equal)
+valences p.NotEqual = each (OnOne monad.NubSieve) (Scalar scalar.NotEqual)
+valences p.Nub = each (OnOne monad.Nub) Absent
+valences p.Shape = each (OnOne monad.ShapeOf) (OnTwo dyad.Reshape)
+valences p.Ravel = each (OnOne monad.Ravel) (OnTwo dyad.Append)
+valences p.RavelItems = each (OnOne monad.RavelItems) (ByItems dyad.Append)
+valences p.Itemize = each (OnOne monad.Itemize) (OnTwo dyad.Laminate)
 valences p.Link = both Later
 valences p.Words = each Later LeftOut
-valences p.Tally = both Later
-valences p.Base = both Later
-valences p.Antibase = both Later
-valences p.Reverse = both Later
-valences p.Transpose = both Later
-valences p.Take = both Later
-valences p.Tail = each Later Absent
-valences p.Drop = both Later
-valences p.Curtail = each Later Absent
-valences p.From = both Later
-valences p.IndexOf = both Later
-valences p.LastIndexOf = both Later
-valences p.Indices = each Later LeftOut
-valences p.Member = each LeftOut Later
-valences p.GradeUp = both Later
-valences p.GradeDown = both Later
+valences p.Tally = each (OnOne monad.TallyOf) (OnTwo dyad.Copy)
+valences p.Base = each (OnOne monad.BaseTwo) (OnTwo dyad.Base)
+valences p.Antibase = each (OnOne monad.AntibaseTwo) (OnTwo dyad.Antibase)
+valences p.Reverse = each (OnOne monad.Reverse) (OnTwo dyad.Rotate)
+valences p.Transpose = each (OnOne monad.Transpose) (OnTwo dyad.TransposeBy)
+valences p.Take = each (OnOne monad.Head) (OnTwo dyad.Take)
+valences p.Tail = each (OnOne monad.Tail) Absent
+valences p.Drop = each (OnOne monad.Behead) (OnTwo dyad.DropItems)
+valences p.Curtail = each (OnOne monad.Curtail) Absent
+valences p.From = each Later (OnTwo dyad.From)
+valences p.IndexOf = each (OnOne monad.Integers) (OnTwo dyad.IndexOf)
+valences p.LastIndexOf = each (OnOne monad.StepsAround) (OnTwo dyad.LastIndexOf)
+valences p.Indices = each (OnOne monad.IndicesOfOnes) LeftOut
+valences p.Member = each LeftOut (OnTwo dyad.Member)
+valences p.GradeUp = each (OnOne monad.GradeUp) (OnTwo dyad.SortUp)
+valences p.GradeDown = each (OnOne monad.GradeDown) (OnTwo dyad.SortDown)
 valences p.Left = both LeftArgument
 valences p.Right = both RightArgument
 valences p.Cap = both Absent
@@ -107,6 +114,9 @@ HasValence v (Some x) = has_dyad v ≡ true
 
 abbrev pub IsServed : Valence → Option Array → Type 0
 IsServed (Scalar v) x = HasValence v x
+IsServed (OnOne m) x = Unit {0}
+IsServed (OnTwo d) x = Unit {0}
+IsServed (ByItems d) x = Unit {0}
 IsServed LeftArgument x = Unit {0}
 IsServed RightArgument x = Unit {0}
 IsServed Constant x = Unit {0}
@@ -116,7 +126,7 @@ IsServed Later x = Unit {0}
 
 -- the number that is an atom's result
 abbrev pub one_number : Result Atom Fault → Result Array Fault
-one_number (Ok z) = Ok (atom_array Number z)
+one_number (Ok z) = Ok (atom_array NumberKind z)
 one_number (Err e) = Err e
 
 -- the atom of a cell of rank 0
@@ -133,14 +143,25 @@ abbrev pub left_of : Option Array → Array → Array
 left_of None y = y
 left_of (Some x) y = x
 
+-- a verb on two nouns
+abbrev pub two_cell : Dyad → Option Array → Array → Result Array Fault
+two_cell d x y = of_two d (left_of x y) y
+
+-- the ranks by which each item is a cell
+abbrev pub by_items : Ranks
+by_items = same (Number (negsuc 0))
+
 -- a constant verb's number
 abbrev pub always : Option ℤ → Result Array Fault
-always (Some n) = Ok (atom_array Number (number n))
+always (Some n) = Ok (atom_array NumberKind (number n))
 always None = Err Nonce
 
 -- what a valence of a word does: what the language leaves out, and what isn't there yet, is `nonce error`, and a valence that a verb doesn't have `domain error`
 abbrev pub done : Primitive → Valence → Doing
 done p (Scalar v) x y = or_fault (scalar_cell v x y)
+done p (OnOne m) x y = or_fault (of_one m y)
+done p (OnTwo d) x y = or_fault (two_cell d x y)
+done p (ByItems d) x y = by_ranks by_items (λ a b. or_fault (two_cell d a b)) x y
 done p LeftArgument x y = pure (left_of x y)
 done p RightArgument x y = pure y
 done p Constant x y = or_fault (always (constant p))

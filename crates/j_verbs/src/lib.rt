@@ -1,12 +1,15 @@
 //! What the verbs that are one word do, on cells and on whole nouns, and the rule of cells.
 #![tactic(auto)]
 
+mod calls;
+mod items;
 mod nouns;
 mod pairs;
 mod rows;
 mod table;
 mod words;
 
+pub use calls::{Dyad, Monad, of_one, of_two};
 pub use nouns::whole;
 pub use pairs::{fills, pair, planned};
 pub use rows::cell_laws;

@@ -2,6 +2,7 @@
 ghost use Rattle.std.specs.Prelude.{◌≡◌};
 ghost use Rattle.j_verbs.specs.Words.{both as both_of, each as each_of, valences as table};
 
+use crate::calls::{Dyad, Monad};
 use j_kernels::Scalar;
 use j_leaves::Primitive;
 
@@ -9,6 +10,9 @@ use j_leaves::Primitive;
 #[derive(Clone, Copy, PartialEq, Eq, Debug)]
 pub enum Valence {
     Scalar(Scalar),
+    OnOne(Monad),
+    OnTwo(Dyad),
+    ByItems(Dyad),
     LeftArgument,
     RightArgument,
     Constant,
@@ -49,45 +53,75 @@ pub fn valences_of(p: Primitive) -> Valences
         Primitive::Minus => both(Valence::Scalar(Scalar::Minus)),
         Primitive::Times => both(Valence::Scalar(Scalar::Times)),
         Primitive::Divide => both(Valence::Scalar(Scalar::Divide)),
-        Primitive::Member => each(Valence::LeftOut, Valence::Later),
-        Primitive::Shape
-        | Primitive::Ravel
-        | Primitive::RavelItems
-        | Primitive::Itemize
-        | Primitive::Link
-        | Primitive::Tally
-        | Primitive::Base
-        | Primitive::Antibase
-        | Primitive::Reverse
-        | Primitive::Transpose
-        | Primitive::Take
-        | Primitive::Drop
-        | Primitive::From
-        | Primitive::IndexOf
-        | Primitive::LastIndexOf
-        | Primitive::GradeUp
-        | Primitive::GradeDown => both(Valence::Later),
+        Primitive::Member => each(Valence::LeftOut, Valence::OnTwo(Dyad::Member)),
+        Primitive::Shape => each(
+            Valence::OnOne(Monad::ShapeOf),
+            Valence::OnTwo(Dyad::Reshape),
+        ),
+        Primitive::Ravel => each(Valence::OnOne(Monad::Ravel), Valence::OnTwo(Dyad::Append)),
+        Primitive::RavelItems => each(
+            Valence::OnOne(Monad::RavelItems),
+            Valence::ByItems(Dyad::Append),
+        ),
+        Primitive::Itemize => each(
+            Valence::OnOne(Monad::Itemize),
+            Valence::OnTwo(Dyad::Laminate),
+        ),
+        Primitive::Tally => each(Valence::OnOne(Monad::TallyOf), Valence::OnTwo(Dyad::Copy)),
+        Primitive::From => each(Valence::Later, Valence::OnTwo(Dyad::From)),
+        Primitive::Reverse => each(Valence::OnOne(Monad::Reverse), Valence::OnTwo(Dyad::Rotate)),
+        Primitive::Transpose => each(
+            Valence::OnOne(Monad::Transpose),
+            Valence::OnTwo(Dyad::TransposeBy),
+        ),
+        Primitive::Take => each(Valence::OnOne(Monad::Head), Valence::OnTwo(Dyad::Take)),
+        Primitive::Drop => each(
+            Valence::OnOne(Monad::Behead),
+            Valence::OnTwo(Dyad::DropItems),
+        ),
+        Primitive::IndexOf => each(
+            Valence::OnOne(Monad::Integers),
+            Valence::OnTwo(Dyad::IndexOf),
+        ),
+        Primitive::LastIndexOf => each(
+            Valence::OnOne(Monad::StepsAround),
+            Valence::OnTwo(Dyad::LastIndexOf),
+        ),
+        Primitive::Tail => each(Valence::OnOne(Monad::Tail), Valence::Absent),
+        Primitive::Curtail => each(Valence::OnOne(Monad::Curtail), Valence::Absent),
+        Primitive::Indices => each(Valence::OnOne(Monad::IndicesOfOnes), Valence::LeftOut),
+        Primitive::Base => each(Valence::OnOne(Monad::BaseTwo), Valence::OnTwo(Dyad::Base)),
+        Primitive::Antibase => each(
+            Valence::OnOne(Monad::AntibaseTwo),
+            Valence::OnTwo(Dyad::Antibase),
+        ),
+        Primitive::GradeUp => each(Valence::OnOne(Monad::GradeUp), Valence::OnTwo(Dyad::SortUp)),
+        Primitive::GradeDown => each(
+            Valence::OnOne(Monad::GradeDown),
+            Valence::OnTwo(Dyad::SortDown),
+        ),
+        Primitive::Link => both(Valence::Later),
         Primitive::LesserOf => both(Valence::Scalar(Scalar::LesserOf)),
         Primitive::GreaterOf => both(Valence::Scalar(Scalar::GreaterOf)),
         Primitive::LessEqual => both(Valence::Scalar(Scalar::LessEqual)),
         Primitive::GreaterEqual => both(Valence::Scalar(Scalar::GreaterEqual)),
         Primitive::Double => both(Valence::Scalar(Scalar::Double)),
         Primitive::Square => both(Valence::Scalar(Scalar::Square)),
-        Primitive::Not => each(Valence::Scalar(Scalar::Not), Valence::Later),
-        Primitive::Halve => each(Valence::Scalar(Scalar::Halve), Valence::Later),
+        Primitive::Not => each(Valence::Scalar(Scalar::Not), Valence::OnTwo(Dyad::Less)),
+        Primitive::Halve => each(Valence::Scalar(Scalar::Halve), Valence::OnTwo(Dyad::Match)),
         Primitive::Less => each(Valence::Later, Valence::Scalar(Scalar::Less)),
         Primitive::Greater => each(Valence::Later, Valence::Scalar(Scalar::Greater)),
-        Primitive::Equal => each(Valence::Later, Valence::Scalar(Scalar::Equal)),
-        Primitive::NotEqual => each(Valence::Later, Valence::Scalar(Scalar::NotEqual)),
-        Primitive::Nub
-        | Primitive::Tail
-        | Primitive::Curtail
-        | Primitive::Echo
-        | Primitive::Cocurrent => each(Valence::Later, Valence::Absent),
-        Primitive::Words | Primitive::Indices | Primitive::Format => each(
-            Valence::Later,
-            Valence::LeftOut,
+        Primitive::Equal => each(
+            Valence::OnOne(Monad::SelfClassify),
+            Valence::Scalar(Scalar::Equal),
         ),
+        Primitive::NotEqual => each(
+            Valence::OnOne(Monad::NubSieve),
+            Valence::Scalar(Scalar::NotEqual),
+        ),
+        Primitive::Nub => each(Valence::OnOne(Monad::Nub), Valence::Absent),
+        Primitive::Echo | Primitive::Cocurrent => each(Valence::Later, Valence::Absent),
+        Primitive::Words | Primitive::Format => each(Valence::Later, Valence::LeftOut),
         Primitive::Left => both(Valence::LeftArgument),
         Primitive::Right => both(Valence::RightArgument),
         Primitive::Cap => both(Valence::Absent),

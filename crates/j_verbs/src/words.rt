@@ -6,8 +6,10 @@ ghost use Rattle.j_definitions.specs.declared.Kind.TheVariants.{Boxed as BoxedKi
 ghost use Rattle.j_noun.specs.Refused.{OrWanting};
 ghost use Rattle.j_leaves.specs.Spelling.{constant};
 ghost use Rattle.j_verbs.specs.Answered.{Gives};
-ghost use Rattle.j_verbs.specs.Words.{always, atom_of, left_of, scalar_cell, valence as valence_of, word, HasValence, IsServed};
+ghost use Rattle.j_verbs.specs.Words.{always, atom_of, left_of, scalar_cell, two_cell, valence as valence_of, word, HasValence, IsServed};
 
+use crate::calls::{Dyad, of_one, of_two};
+use crate::items::item_by_item;
 use crate::table::{Valence, valences_of};
 use j_kernels as kernels;
 use j_kernels::Scalar;
@@ -89,6 +91,16 @@ fn left_argument(x: Option<&Noun>, y: &Noun) -> Result<Noun, NoMemory>
     }
 }
 
+/// A verb on two nouns, of which y is both where there is no left one.
+pub fn on_two(pool: &mut Pool, d: Dyad, x: Option<&Noun>, y: &Noun) -> Result<Noun, Refusal>
+    ensures { OrWanting (two_cell d (option_copied x.entry) y.now) result }
+{
+    match x {
+        Some(x) => of_two(pool, d, x, y),
+        None => of_two(pool, d, y, y),
+    }
+}
+
 // A constant verb.
 fn constant(p: Primitive) -> Result<Noun, Refusal>
     ensures { OrWanting (always (constant p)) result }
@@ -106,6 +118,9 @@ pub fn cell(pool: &mut Pool, p: Primitive, x: Option<&Noun>, y: &Noun) -> Result
 {
     match valence(p, x) {
         Valence::Scalar(v) => scalar(pool, v, x, y),
+        Valence::OnOne(m) => of_one(pool, m, y),
+        Valence::OnTwo(d) => on_two(pool, d, x, y),
+        Valence::ByItems(d) => item_by_item(pool, d, x, y),
         Valence::LeftArgument => Ok(left_argument(x, y)?),
         Valence::RightArgument => Ok(y.duplicate()?),
         Valence::Constant => constant(p),
