@@ -6,4 +6,6 @@ pub mod Sentences
 pub mod Bound
 pub mod Parts
 pub mod Cells
+pub mod Between
+pub mod Identities
 pub mod Repeats

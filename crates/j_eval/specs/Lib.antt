@@ -7,8 +7,10 @@ pub mod Operands
 pub mod Compositions
 pub mod Ranked
 pub mod Powers
+pub mod Insertion
 pub mod Modifiers
 pub mod Applying
+pub mod EachCell
 pub mod Meaning
 pub mod Meets
 pub mod Machine

@@ -4,12 +4,13 @@ use Rattle.j_leaves.specs.declared.modifier.Modifier.TheVariants as m
 use Rattle.j_trains.specs.Modifiers.{adverb_fault, conjunction_fault}
 use Rattle.j_verbs.specs.ByRank.{Doing}
 use Rattle.j_eval.specs.Operands.{Operand, unformed, where_formed}
+use Rattle.j_eval.specs.Insertion.{insert, inner_product}
 use Rattle.j_eval.specs.Compositions.{at, over, bond, passive}
 use Rattle.j_eval.specs.Powers.{power}
 use Rattle.j_eval.specs.Ranked.{rank}
 
 abbrev pub modified : Modifier → Operand → Doing
-modified m.Insert u = unformed
+modified m.Insert u = insert u
 modified m.Prefix u = unformed
 modified m.Suffix u = unformed
 modified m.Oblique u = unformed
@@ -36,7 +37,7 @@ joined m.Bond u v = bond u v
 joined m.Appose u v = over u v
 joined m.Under u v = unformed
 joined m.PowerOf u v = power u v
-joined m.Product u v = unformed
+joined m.Product u v = inner_product u v
 joined m.Adverse u v = unformed
 joined m.Monadic u v = unformed
 joined m.Insert u v = unformed

@@ -7,12 +7,12 @@ ghost use Rattle.j_eval.specs.Applying.{Calls, apply, call, cell, does, named_ce
 ghost use Rattle.j_eval.specs.Meets.{Kept, Meets, Onward};
 ghost use Rattle.j_verbs.specs.Words.{word};
 
+use crate::by_rank::EachCell;
 use crate::machine::Machine;
 use crate::outcome::{Halt, or_halt};
 use j_entity::{Operand, Primitive, Tree, Verb};
 use j_leaves::Name;
 use j_noun::{Fault, Noun};
-use j_rank::{are_whole, is_whole};
 
 // The levels left in a call of a verb, where there are enough.
 fn levels_below(room: u32, v: &Verb) -> Option<u32>
@@ -29,7 +29,11 @@ impl Machine {
         ensures gives { Meets result self.new (word p (option_copied x.entry) y.now self.old.state) }
         ensures onward { Onward self.old self.new }
     {
-        or_halt(j_verbs::cell(&mut self.pool, p, x, y))
+        // At two places, so that it keeps a frame of its own.
+        match x {
+            Some(_) => or_halt(j_verbs::cell(&mut self.pool, p, x, y)),
+            None => or_halt(j_verbs::cell(&mut self.pool, p, None, y)),
+        }
     }
 
     // What a word gives on all its cells at once, where it is served so.
@@ -79,6 +83,7 @@ impl Machine {
 
     // A verb inside a call, where `room` levels are left for further calls.
     #[cycle(eval)]
+    #[tactic(auto, unfolding(crate::specs::Applying::apply))]
     pub(crate) fn apply(
         &mut self,
         room: u32,
@@ -91,22 +96,7 @@ impl Machine {
     {
         match self.whole(v, x, y) {
             Some(answer) => answer,
-            None => self.by_ranks(room, v, x, y),
-        }
-    }
-
-    // What a verb does on each cell, by its ranks.
-    #[cycle(eval)]
-    #[tactic(auto, unfolding(crate::specs::Applying::apply))]
-    fn by_ranks(&mut self, room: u32, v: &Verb, x: Option<&Noun>, y: &Noun) -> Result<Noun, Halt>
-        ensures gives { Meets result self.new (apply (nested room) v.now (option_copied x.entry) y.now self.old.state) }
-        ensures onward { Onward self.old self.new }
-    {
-        let r = v.ranks();
-        match x {
-            Some(left) if !are_whole(r.left, r.right, left, y) => self.by_cells(room, v, r, x, y),
-            None if !is_whole(r.monad, y) => self.by_cells(room, v, r, x, y),
-            _ => self.on_whole(room, v, r, x, y),
+            None => self.ranked(room, EachCell::Cell(v), v.ranks(), x, y),
         }
     }
 

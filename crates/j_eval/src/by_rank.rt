@@ -3,18 +3,26 @@ ghost use Rattle.std.specs.Prelude.{◌≡◌, ◌<◌, ◌∷◌, ◌++◌, [],
 ghost use Rattle.std.specs.Option.{option_copied};
 ghost use Rattle.j_definitions.specs.Array.{Array, product};
 ghost use Rattle.j_rank.specs.Assembly.{assemble};
-ghost use Rattle.j_eval.specs.Applying.{cell, nested};
+ghost use Rattle.j_eval.specs.Applying.{nested};
+ghost use Rattle.j_eval.specs.EachCell.{on_each};
 ghost use Rattle.j_eval.specs.Meets.{Running, Kept, Meets, NoMemoryOr, Onward};
 ghost use Rattle.j_verbs.specs.ByRank.{HasPairs, IsWhole, source, pair, fills, zero_atom, by_ranks, by_source, on_pairs, on_fills, fill_result};
 ghost use Rattle.j_verbs.specs.State.{Outcome, else_do, or_fault, pure};
 
 use crate::machine::Machine;
 use crate::outcome::{Halt, or_halt};
-use j_entity::Verb;
+use j_entity::{Operand, Verb};
 use j_leaves::Ranks;
 use j_noun::Noun;
-use j_rank::{Collector, Plan, alone};
+use j_rank::{Collector, Plan, alone, are_whole, is_whole};
 use j_verbs::planned;
+
+// What is done on each cell: what a verb does on a cell of its own ranks, or an operand as a verb.
+#[derive(Clone, Copy)]
+pub(crate) enum EachCell<'a> {
+    Cell(&'a Verb),
+    Does(&'a Operand),
+}
 
 // The number 0 where a run errs.
 fn or_zero(r: Result<Noun, Halt>) -> Result<Noun, Halt>
@@ -87,144 +95,184 @@ impl Machine {
 }
 
 impl Machine {
-    // A verb on the whole of its arguments.
+    // What is done on cells of these ranks.
     #[cycle(eval)]
-    pub(crate) fn on_whole(
+    pub(crate) fn ranked(
         &mut self,
         room: u32,
-        v: &Verb,
+        each: EachCell<'_>,
+        r: Ranks,
+        x: Option<&Noun>,
+        y: &Noun,
+    ) -> Result<Noun, Halt>
+        ensures gives { Meets result self.new (by_ranks r (on_each (nested room) each.entry) (option_copied x.entry) y.now self.old.state) }
+        ensures onward { Onward self.old self.new }
+    {
+        match x {
+            Some(left) if !are_whole(r.left, r.right, left, y) => self.by_cells(
+                room, each, r, x, y,
+            ),
+            None if !is_whole(r.monad, y) => self.by_cells(room, each, r, x, y),
+            _ => self.on_whole(room, each, r, x, y),
+        }
+    }
+
+    // What is done on the whole of the arguments.
+    #[cycle(eval)]
+    fn on_whole(
+        &mut self,
+        room: u32,
+        each: EachCell<'_>,
         r: Ranks,
         x: Option<&Noun>,
         y: &Noun,
     ) -> Result<Noun, Halt>
         requires { IsWhole r (option_copied x) y.now }
-        ensures gives { Meets result self.new (by_ranks r (cell (nested room) v.now) (option_copied x.entry) y.now self.old.state) }
+        ensures gives { Meets result self.new (by_ranks r (on_each (nested room) each.entry) (option_copied x.entry) y.now self.old.state) }
         ensures onward { Onward self.old self.new }
     {
-        match self.cell(room, v, x, y) {
+        match self.on_cell(room, each, x, y) {
             Ok(noun) => Ok(alone(noun)),
             Err(halt) => Err(halt),
         }
     }
 
-    // A verb on the cells that its ranks make.
+    // What is done on the cells that ranks make.
     #[cycle(eval)]
     #[inline(never)]
-    pub(crate) fn by_cells(
+    fn by_cells(
         &mut self,
         room: u32,
-        v: &Verb,
+        each: EachCell<'_>,
         r: Ranks,
         x: Option<&Noun>,
         y: &Noun,
     ) -> Result<Noun, Halt>
-        ensures gives { Meets result self.new (by_ranks r (cell (nested room) v.now) (option_copied x.entry) y.now self.old.state) }
+        ensures gives { Meets result self.new (by_ranks r (on_each (nested room) each.entry) (option_copied x.entry) y.now self.old.state) }
         ensures onward { Onward self.old self.new }
     {
         match planned(r, x, y) {
-            Ok(plan) => self.by_plan(room, v, &plan, x, y),
+            Ok(plan) => self.by_plan(room, each, &plan, x, y),
             Err(fault) => Err(Halt::Failed(fault)),
         }
     }
 
-    // A verb on the cells of a plan.
+    // What is done on the cells of a plan.
     #[cycle(eval)]
     #[tactic(auto, using(crate::proofs::Cells::where_none, crate::proofs::Cells::where_some))]
     fn by_plan(
         &mut self,
         room: u32,
-        v: &Verb,
+        each: EachCell<'_>,
         plan: &Plan,
         x: Option<&Noun>,
         y: &Noun,
     ) -> Result<Noun, Halt>
         requires { HasPairs plan.now (option_copied x) y.now }
-        ensures gives { Meets result self.new (by_source (cell (nested room) v.now) (source plan.now (option_copied x.entry) y.now) self.old.state) }
+        ensures gives { Meets result self.new (by_source (on_each (nested room) each.entry) (source plan.now (option_copied x.entry) y.now) self.old.state) }
         ensures onward { Onward self.old self.new }
     {
         if plan.count() == 0 {
-            self.over_fills(room, v, plan, x, y)
+            self.over_fills(room, each, plan, x, y)
         } else {
-            self.over_pairs(room, v, plan, x, y)
+            self.over_pairs(room, each, plan, x, y)
         }
     }
 
-    // A verb where the frame holds a 0, so that there are no pairs.
+    // What is done where the frame holds a 0, so that there are no pairs.
     #[cycle(eval)]
     fn over_fills(
         &mut self,
         room: u32,
-        v: &Verb,
+        each: EachCell<'_>,
         plan: &Plan,
         x: Option<&Noun>,
         y: &Noun,
     ) -> Result<Noun, Halt>
         requires none { product plan.now.agreed.frame ≡ 0 }
         requires cells { HasPairs plan.now (option_copied x) y.now }
-        ensures gives { Meets result self.new (on_fills (cell (nested room) v.now) (source plan.now (option_copied x.entry) y.now) self.old.state) }
+        ensures gives { Meets result self.new (on_fills (on_each (nested room) each.entry) (source plan.now (option_copied x.entry) y.now) self.old.state) }
         ensures onward { Onward self.old self.new }
     {
-        let r = or_zero(self.fill_result(room, v, plan, x, y))?;
+        let r = or_zero(self.fill_result(room, each, plan, x, y))?;
         let mut results = collector(plan);
         self.collect(&mut results, r)?;
         self.assembled(results)
     }
 
-    // A verb on cells that are let go then.
+    // What is done on one cell or two.
+    #[cycle(eval)]
+    fn on_cell(
+        &mut self,
+        room: u32,
+        each: EachCell<'_>,
+        x: Option<&Noun>,
+        y: &Noun,
+    ) -> Result<Noun, Halt>
+        ensures gives { Meets result self.new (on_each (nested room) each.entry (option_copied x.entry) y.now self.old.state) }
+        ensures onward { Onward self.old self.new }
+    {
+        match each {
+            EachCell::Cell(v) => self.cell(room, v, x, y),
+            EachCell::Does(u) => self.does(room, u, x, y),
+        }
+    }
+
+    // What is done on cells that are let go then.
     #[cycle(eval)]
     fn on_cells(
         &mut self,
         room: u32,
-        v: &Verb,
+        each: EachCell<'_>,
         left: Option<Noun>,
         right: Noun,
     ) -> Result<Noun, Halt>
-        ensures gives { Meets result self.new (cell (nested room) v.now left right self.old.state) }
+        ensures gives { Meets result self.new (on_each (nested room) each.entry left right self.old.state) }
         ensures onward { Onward self.old self.new }
     {
-        let answer = self.cell(room, v, left.as_ref(), &right);
+        let answer = self.on_cell(room, each, left.as_ref(), &right);
         drop(left);
         drop(right);
         answer
     }
 
-    // A verb on the cells of fills.
+    // What is done on the cells of fills.
     #[cycle(eval)]
     fn fill_result(
         &mut self,
         room: u32,
-        v: &Verb,
+        each: EachCell<'_>,
         plan: &Plan,
         x: Option<&Noun>,
         y: &Noun,
     ) -> Result<Noun, Halt>
         requires { HasPairs plan.now (option_copied x) y.now }
-        ensures gives { Meets result self.new (fill_result (cell (nested room) v.now) (source plan.now (option_copied x.entry) y.now) self.old.state) }
+        ensures gives { Meets result self.new (fill_result (on_each (nested room) each.entry) (source plan.now (option_copied x.entry) y.now) self.old.state) }
         ensures onward { Onward self.old self.new }
     {
         let (left, right) = self.fills(plan, x, y)?;
-        self.on_cells(room, v, left, right)
+        self.on_cells(room, each, left, right)
     }
 
-    // A verb on each pair of cells.
+    // What is done on each pair of cells.
     #[cycle(eval)]
     fn over_pairs(
         &mut self,
         room: u32,
-        v: &Verb,
+        each: EachCell<'_>,
         plan: &Plan,
         x: Option<&Noun>,
         y: &Noun,
     ) -> Result<Noun, Halt>
         requires some { 0 < product plan.now.agreed.frame }
         requires cells { HasPairs plan.now (option_copied x) y.now }
-        ensures gives { Meets result self.new (on_pairs (cell (nested room) v.now) (source plan.now (option_copied x.entry) y.now) self.old.state) }
+        ensures gives { Meets result self.new (on_pairs (on_each (nested room) each.entry) (source plan.now (option_copied x.entry) y.now) self.old.state) }
         ensures onward { Onward self.old self.new }
     {
         let mut results = collector(plan);
         for k in 0..plan.count() {
             let (left, right) = self.pair(plan, x, y, k)?;
-            let r = self.on_cells(room, v, left, right)?;
+            let r = self.on_cells(room, each, left, right)?;
             self.collect(&mut results, r)?;
         }
         self.assembled(results)

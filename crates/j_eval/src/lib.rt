@@ -4,6 +4,7 @@
 mod applying;
 mod by_rank;
 mod compositions;
+mod insertion;
 mod machine;
 mod modifiers;
 mod outcome;

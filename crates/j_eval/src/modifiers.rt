@@ -27,8 +27,8 @@ impl Machine {
     {
         match m {
             Modifier::Passive => self.passive(room, u, x, y),
-            Modifier::Insert
-            | Modifier::Prefix
+            Modifier::Insert => self.insert(room, u, x, y),
+            Modifier::Prefix
             | Modifier::Suffix
             | Modifier::Oblique
             | Modifier::Cut
@@ -85,6 +85,7 @@ impl Machine {
             Modifier::At => self.at(room, u, v, x, y),
             Modifier::Bond => self.bond(room, u, v, x, y),
             Modifier::Appose => self.over(room, u, v, x, y),
+            Modifier::Product => self.product(room, u, v, x, y),
             // At two places, so that it keeps a frame of its own.
             Modifier::PowerOf => match x {
                 Some(_) => self.power(room, u, v, x, y),
@@ -98,7 +99,6 @@ impl Machine {
             | Modifier::Passive
             | Modifier::Amend
             | Modifier::Under
-            | Modifier::Product
             | Modifier::Adverse
             | Modifier::Monadic => Err(Halt::Failed(Fault::Domain)),
         }

@@ -2,9 +2,14 @@ use Rattle.std.proofs.Common.{◌≡◌, ℕ, ◌+◌, ◌*◌, ◌-◌, max, le
 use Rattle.std.specs.Option.{option_copied}
 use Rattle.j_entity.specs.Heights.{verb_height, operand_height}
 use Rattle.j_entity.specs.View.{operand_of}
-use Rattle.j_eval.specs.Applying.{cell, does, nested}
+use Rattle.j_eval.specs.Applying.{does, nested}
+use Rattle.j_eval.specs.EachCell.{on_each}
+use Rattle.j_eval.specs.declared.by_rank.EachCell.{EachCell}
+use Rattle.j_eval.specs.declared.by_rank.EachCell.TheVariants.{Cell, Does}
 use Rattle.j_verbs.specs.ByRank.{source, on_pairs}
 use Rattle.j_eval.specs.Meets.{Onward}
+use Rattle.j_insert.specs.Insertion.{items_from_right}
+use Rattle.j_eval.specs.Insertion.{between}
 use Rattle.j_eval.specs.Powers.{times, endless}
 use Rattle.j_eval.proofs.Repeats.{Left}
 use Rattle.j_eval.proofs.Cells.{going}
@@ -17,38 +22,46 @@ level = 1000
 abbrev step : ℕ
 step = 64
 
+-- by what is done on each cell
+abbrev weight : EachCell → ℕ
+weight (Cell v) = step * verb_height v.now
+weight (Does u) = step * operand_height (operand_of u.now) + 10
+
 abbrev pub decreases-call : goal.decreases-call
 decreases-call l = level * l.room
 
 abbrev pub decreases-apply : goal.decreases-apply
-decreases-apply l = level * l.room + step * verb_height l.v.now + 33
+decreases-apply l = level * l.room + step * verb_height l.v.now + 34
 
-abbrev pub decreases-by_ranks : goal.decreases-by_ranks
-decreases-by_ranks l = level * l.room + step * verb_height l.v.now + 32
+abbrev pub decreases-ranked : goal.decreases-ranked
+decreases-ranked l = level * l.room + weight l.each + 32
+
+abbrev pub decreases-on_cell : goal.decreases-on_cell
+decreases-on_cell l = level * l.room + weight l.each + 26
 
 abbrev pub decreases-on_whole : goal.decreases-on_whole
-decreases-on_whole l = level * l.room + step * verb_height l.v.now + 30
+decreases-on_whole l = level * l.room + weight l.each + 30
 
 abbrev pub decreases-by_cells : goal.decreases-by_cells
-decreases-by_cells l = level * l.room + step * verb_height l.v.now + 31
+decreases-by_cells l = level * l.room + weight l.each + 31
 
 abbrev pub decreases-by_plan : goal.decreases-by_plan
-decreases-by_plan l = level * l.room + step * verb_height l.v.now + 30
+decreases-by_plan l = level * l.room + weight l.each + 30
 
 abbrev pub decreases-over_fills : goal.decreases-over_fills
-decreases-over_fills l = level * l.room + step * verb_height l.v.now + 29
+decreases-over_fills l = level * l.room + weight l.each + 29
 
 abbrev pub decreases-over_pairs : goal.decreases-over_pairs
-decreases-over_pairs l = level * l.room + step * verb_height l.v.now + 28
+decreases-over_pairs l = level * l.room + weight l.each + 28
 
 abbrev pub decreases-fill_result : goal.decreases-fill_result
-decreases-fill_result l = level * l.room + step * verb_height l.v.now + 28
+decreases-fill_result l = level * l.room + weight l.each + 28
 
 abbrev pub decreases-on_cells : goal.decreases-on_cells
-decreases-on_cells l = level * l.room + step * verb_height l.v.now + 27
+decreases-on_cells l = level * l.room + weight l.each + 27
 
 abbrev pub decreases-cell : goal.decreases-cell
-decreases-cell l = level * l.room + step * verb_height l.v.now + 26
+decreases-cell l = level * l.room + step * verb_height l.v.now + 25
 
 abbrev pub decreases-named_cell : goal.decreases-named_cell
 decreases-named_cell l = level * l.room + 3
@@ -66,13 +79,25 @@ abbrev pub decreases-hook : goal.decreases-hook
 decreases-hook l = level * l.room + step * max (verb_height l.g.now) (verb_height l.h.now) + 40
 
 abbrev pub decreases-does : goal.decreases-does
-decreases-does l = level * l.room + step * operand_height (operand_of l.u.now) + 34
+decreases-does l = level * l.room + step * operand_height (operand_of l.u.now) + 35
 
 abbrev pub decreases-adverb : goal.decreases-adverb
 decreases-adverb l = level * l.room + step * operand_height (operand_of l.u.now) + 51
 
 abbrev pub decreases-modified : goal.decreases-modified
 decreases-modified l = level * l.room + step * operand_height (operand_of l.u.now) + 50
+
+abbrev pub decreases-insert : goal.decreases-insert
+decreases-insert l = level * l.room + step * operand_height (operand_of l.u.now) + 45
+
+abbrev pub decreases-insert_items : goal.decreases-insert_items
+decreases-insert_items l = level * l.room + step * operand_height (operand_of l.u.now) + 38
+
+abbrev pub decreases-between : goal.decreases-between
+decreases-between l = level * l.room + step * operand_height (operand_of l.u.now) + 37
+
+abbrev pub decreases-product : goal.decreases-product
+decreases-product l = level * l.room + step * max (operand_height (operand_of l.u.now)) (operand_height (operand_of l.v.now)) + 45
 
 abbrev pub decreases-passive : goal.decreases-passive
 decreases-passive l = level * l.room + step * operand_height (operand_of l.u.now) + 40
@@ -108,23 +133,23 @@ abbrev pub decreases-power : goal.decreases-power
 decreases-power l = level * l.room + step * max (operand_height (operand_of l.u.now)) (operand_height (operand_of l.v.now)) + 40
 
 abbrev pub decreases-as_often : goal.decreases-as_often
-decreases-as_often l = level * l.room + step * operand_height (operand_of l.u.now) + 37
+decreases-as_often l = level * l.room + step * operand_height (operand_of l.u.now) + 38
 
 abbrev pub decreases-times : goal.decreases-times
-decreases-times l = level * l.room + step * operand_height (operand_of l.u.now) + 36
+decreases-times l = level * l.room + step * operand_height (operand_of l.u.now) + 37
 
 abbrev pub decreases-endless : goal.decreases-endless
-decreases-endless l = level * l.room + step * operand_height (operand_of l.u.now) + 36
+decreases-endless l = level * l.room + step * operand_height (operand_of l.u.now) + 37
 
 abbrev pub decreases-once : goal.decreases-once
-decreases-once l = level * l.room + step * operand_height (operand_of l.u.now) + 35
+decreases-once l = level * l.room + step * operand_height (operand_of l.u.now) + 36
 
 -- the results so far, then what the other pairs give, is the whole
 abbrev pub invariant-over_pairs-loop-k : goal.invariant-over_pairs-loop-k
 invariant-over_pairs-loop-k l = record {
   frame : l.results.frame ≡ l.plan.agreed.frame;
   many : length l.results.results ≡ l.k;
-  same : going (cell (nested l.room) l.v) l.plan (option_copied l.x) l.y l.k l.results.results l.self.state ≡ on_pairs (cell (nested l.room) l.v) (source l.plan (option_copied l.x) l.y) l.fn.self.state;
+  same : going (on_each (nested l.room) l.each) l.plan (option_copied l.x) l.y l.k l.results.results l.self.state ≡ on_pairs (on_each (nested l.room) l.each) (source l.plan (option_copied l.x) l.y) l.fn.self.state;
   onward : Onward l.fn.self l.self;
 }
 
@@ -143,3 +168,13 @@ invariant-endless-loop-last l = record {
 
 abbrev pub decreases-endless-loop-last : goal.decreases-endless-loop-last
 decreases-endless-loop-last l = l.self.state.budget - l.self.state.steps
+
+-- what u gives between the items that are left and what came so far is what it gives between all
+abbrev pub invariant-between-loop-last : goal.invariant-between-loop-last
+invariant-between-loop-last l = record {
+  same : between (does (nested l.room) (operand_of l.u)) (items_from_right l.items) l.last l.self.state ≡ between (does (nested l.room) (operand_of l.u)) (items_from_right l.fn.items) l.fn.last l.fn.self.state;
+  onward : Onward l.fn.self l.self;
+}
+
+abbrev pub decreases-between-loop-last : goal.decreases-between-loop-last
+decreases-between-loop-last l = l.items.left
