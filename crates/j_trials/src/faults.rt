@@ -65,7 +65,7 @@ fn errors_of_verbs(rt: HostRuntime) -> Result<(), Fail> {
 #[test]
 fn errors_of_form(rt: HostRuntime) -> Result<(), Fail> {
     let alloc = rt.alloc();
-    let rows: [(&str, &str, &str); 30] = [
+    let rows: [(&str, &str, &str); 29] = [
         // a name that holds a noun is that noun
         ("n =: 5\n", "n 1", "syntax"),
         ("n =: 5\n", "1 n", "syntax"),
@@ -97,7 +97,6 @@ fn errors_of_form(rt: HostRuntime) -> Result<(), Fail> {
         ("", "f_z_ =: 3", "nonce"),
         ("", "f__z 1", "nonce"),
         ("", "'f' =: 5", "nonce"),
-        ("", "f =: a.", "nonce"),
         ("", "f =: 1e19", "overflow"),
     ];
     fail(&rt, alloc, &rows)

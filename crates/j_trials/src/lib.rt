@@ -52,6 +52,10 @@ mod scripts;
 #[cfg(test)]
 mod sentences;
 #[cfg(test)]
+mod structure;
+#[cfg(test)]
+mod tallies;
+#[cfg(test)]
 mod trains;
 #[cfg(test)]
 mod values;

@@ -14,11 +14,25 @@ fn shown_for(byte: u8) -> [&'static [u8]; 3] {
             b"|ill-formed number",
             b"|spelling error",
         ],
-        b'+' | b'-' | b'*' | b'%' | b'^' | b'|' | b'<' | b'>' | b'=' | b'[' | b']' => {
-            [b"verb\n", b"verb\n", b"verb\n"]
-        }
+        b'+'
+        | b'-'
+        | b'*'
+        | b'%'
+        | b'^'
+        | b'|'
+        | b'<'
+        | b'>'
+        | b'='
+        | b'['
+        | b']'
+        | b'$'
+        | b','
+        | b'#'
+        | b'{' => { [b"verb\n", b"verb\n", b"verb\n"] }
         b'"' | b'&' | b'@' => [b"conjunction\n", b"|syntax error", b"adverb\n"],
-        b'~' => [b"adverb\n", b"adverb\n", b"verb\n"],
+        b'~' | b'/' => [b"adverb\n", b"adverb\n", b"verb\n"],
+        // behind a letter it is the list of all characters
+        b'.' => [b"conjunction\n", b"|nonce error", b"\0\x01\x02"],
         b'(' | b')' => [b"|syntax error", b"|syntax error", b"|syntax error"],
         b'a'..=b'z' | b'A'..=b'Z' => [b"|value error", b"|value error", b"|value error"],
         33..=126 => [b"|nonce error", b"|nonce error", b"|nonce error"],

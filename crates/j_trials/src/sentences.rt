@@ -126,7 +126,7 @@ fn faults_in_order(rt: HostRuntime) -> Result<(), Fail> {
         ("3 =: (4", "syntax"),
         // a word that can't be read comes before all
         ("() abc.", "spelling"),
-        ("1e19 + $ 3", "nonce"),
+        ("1e19 + %: 3", "nonce"),
         ("1e19 + f", "overflow"),
         ("f + 1e19", "overflow"),
         ("() 1e19", "overflow"),
