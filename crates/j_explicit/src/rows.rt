@@ -50,7 +50,7 @@ pub fn worked_rows()
     ensures not_right_of_at { reading (codes "@:_") ≡ Err fault.IllFormed }
     ensures alphabet { reading (codes "a =: a.") ≡ Ok (simple (codes "a") ∷ global_copula ∷ entity (a_noun alphabet) ∷ []) }
     ensures ace { item_as false class.NounWord (codes "a:") ≡ Ok (entity (a_noun ace)) }
-    ensures ace_later { reading (codes "-a:") ≡ Err fault.Nonce }
+    ensures ace_read { reading (codes "-a:") ≡ Ok (verb p.Minus ∷ entity (a_noun ace) ∷ []) }
     ensures control { reading (codes "f =: if.") ≡ Err fault.Nonce }
     ensures letter { reading (codes "1x") ≡ Err fault.IllFormed }
     ensures infinite { reading (codes "1 _") ≡ Err fault.IllFormed }

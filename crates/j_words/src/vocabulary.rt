@@ -57,7 +57,7 @@ pub(crate) const VOCABULARY: [Row; 15] = [
         stage: Stage::Now,
     },
     Row {
-        words: b"\" @ @: & &: ^: .",
+        words: b"\" @ @: & &: ^: . &. ;.",
         class: Class::Conjunction,
         stage: Stage::Now,
     },
@@ -79,20 +79,20 @@ pub(crate) const VOCABULARY: [Row; 15] = [
     Row {
         words: b"; ;: \":",
         class: Class::Verb,
-        stage: Stage::Later,
+        stage: Stage::Now,
     },
     Row {
         words: b"a:",
         class: Class::NounWord,
-        stage: Stage::Later,
+        stage: Stage::Now,
     },
     Row {
         words: b"} /. \\ \\.",
         class: Class::Adverb,
-        stage: Stage::Later,
+        stage: Stage::Now,
     },
     Row {
-        words: b"&. ;. : ::",
+        words: b": ::",
         class: Class::Conjunction,
         stage: Stage::Later,
     },
