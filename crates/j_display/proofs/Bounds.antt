@@ -40,7 +40,7 @@ bytes_fit p row k bytes few rank light h =
     let c : p * (row + 32 * k) ≡ p * row + p * (32 * k) = mul-add p row (32 * k) in
     omega arith
 
-product-append : (s t : List ℕ) → product (s ++ t) ≡ product s * product t
+pub product-append : (s t : List ℕ) → product (s ++ t) ≡ product s * product t
 product-append [] t = sym (one-mul (product t))
 product-append (n ∷ s) t = ap (λ m. n * m) (product-append s t) ∙ sym (mul_assoc n (product s) (product t))
 

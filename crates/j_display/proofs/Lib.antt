@@ -5,3 +5,17 @@ pub mod Cells
 pub mod LineRows
 pub mod Fitting
 pub mod Wholes
+pub mod Blocks
+pub mod Maxima
+pub mod Contents
+pub mod LeafRows
+pub mod Grids
+pub mod Paints
+pub mod Own
+pub mod Rules
+pub mod Formats
+pub mod Items
+pub mod Steps
+pub mod Found
+pub mod Shows
+pub mod Rooms

@@ -69,7 +69,7 @@ first_items frame f from k = join_by (stacked frame) (replicate (length frame) [
 abbrev pub item_rows : List ℕ → (ℕ → List ℕ) → ℕ → ℕ → List (List ℕ)
 item_rows frame f from k = stacked frame (map f (range_with_len (from + k * product frame) (product frame)))
 
-items_more : (frame : List ℕ) (f : ℕ → List ℕ) (from k : ℕ) → first_items frame f from (k + 1) ≡ first_items frame f from k ++ (replicate (between k (length frame)) [] ++ item_rows frame f from k)
+pub items_more : (frame : List ℕ) (f : ℕ → List ℕ) (from k : ℕ) → first_items frame f from (k + 1) ≡ first_items frame f from k ++ (replicate (between k (length frame)) [] ++ item_rows frame f from k)
 items_more frame f from k =
     let g : ℕ → List (List ℕ) = λ i. map f (range_with_len (from + i * product frame) (product frame)) in
     ap (join_by (stacked frame) (replicate (length frame) [])) (map-range_with_len_more g 0 k k (omega arith))

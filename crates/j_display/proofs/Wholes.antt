@@ -16,10 +16,10 @@ map_map f g [] = refl
 map_map f g (x ∷ xs) = ap (λ r. f (g x) ∷ r) (map_map f g xs)
 
 -- the rows of lines that are told one by one
-abbrev told : Kind → List ℕ → ℕ → List Atom → List ℕ → List (List ℕ)
+abbrev pub told : Kind → List ℕ → ℕ → List Atom → List ℕ → List (List ℕ)
 told k ws columns xs frame = map (λ i. line_row k ws (take columns (drop (i * columns) xs))) (range_with_len 0 (product frame))
 
-all_told : (k : Kind) (ws : List ℕ) (columns : ℕ) (xs : List Atom) (frame : List ℕ) → told k ws columns xs frame ≡ map (line_row k ws) (pieces (product frame) columns xs)
+pub all_told : (k : Kind) (ws : List ℕ) (columns : ℕ) (xs : List Atom) (frame : List ℕ) → told k ws columns xs frame ≡ map (line_row k ws) (pieces (product frame) columns xs)
 all_told k ws columns xs frame = sym (map_map (line_row k ws) (λ i. take columns (drop (i * columns) xs)) (range_with_len 0 (product frame)))
 
 -- what is written for all lines is what their rows are

@@ -4,3 +4,6 @@ pub mod Shown
 pub mod Samples
 pub mod Sizes
 pub mod Lines
+pub mod Blocks
+pub mod Measured
+pub mod Formatted

@@ -1,17 +1,21 @@
 // How values are shown.
 ghost use Rattle.std.specs.Prelude.{◌≡◌, ◌≢◌, ◌+◌, ◌*◌, ◌≤◌, ◌<◌, ◌∷◌, [], length, map};
-ghost use Rattle.j_definitions.specs.Array.{byte, product};
-ghost use Rattle.j_definitions.specs.declared.Kind.TheVariants.{Number, Character};
+ghost use Rattle.j_definitions.specs.Array.{byte, boxed, product};
+ghost use Rattle.j_definitions.specs.declared.Kind.TheVariants.{Number, Character, Boxed};
 ghost use Rattle.j_noun.specs.Viewed.{viewed, kind_viewed};
-ghost use Rattle.j_display.specs.Rows.{lines_stacked, atoms_rows, rows_without_atoms, noun_rows, joined};
+ghost use Rattle.j_display.specs.Rows.{lines_stacked, atoms_rows, content_rows, rows_without_atoms, noun_rows, joined};
 ghost use Rattle.j_display.specs.Display.{entity_rows};
 ghost use Rattle.j_entity.specs.View.{entity_of};
 ghost use Rattle.j_display.specs.Sizes.{stacked_bytes};
 ghost use Rattle.j_display.specs.Lines.{HasLines, shown_lines};
 ghost use Rattle.j_display.specs.Shown.{IsShown};
 
+use crate::canvas::Canvas;
 use crate::columns::column_widths;
+use crate::grid::{grid_bytes, plus, row_length};
 use crate::lines::{Lines, append, append_lines};
+use crate::measure::measure;
+use crate::paint::{Spot, grid_at, paint};
 use crate::sizes::{row_bytes, stacked_bytes};
 use j_entity::Entity;
 use j_noun::{Fault, Noun, Pool, Refusal, View};
@@ -110,19 +114,20 @@ fn show_atoms(
     requires few { length (viewed atoms) ≤ 4194304 }
     requires many { length (viewed atoms) ≡ product axes.now }
     requires rank { length axes.now ≤ 32 }
-    ensures { IsShown result (joined (atoms_rows (kind_viewed atoms.entry) axes.now (viewed atoms.entry))) room into.old.items into.new.items }
+    requires not_boxed { kind_viewed atoms ≢ Boxed }
+    ensures { IsShown result (joined (atoms_rows (kind_viewed atoms.entry) axes.now (viewed atoms.entry) (map content_rows (viewed atoms.entry)))) room into.old.items into.new.items }
 {
     let (frame, line) = axes.split_at(axes.len().saturating_sub(1));
     let columns = columns_of(line);
     match atoms {
         View::Bytes(bytes) => show_characters(frame, columns, bytes, room, into),
-        View::Boxes(_) => Ok(()),
+        View::Boxes(_) => unreachable!(),
         View::Wholes(_) | View::Bits(_) => { show_numbers(pool, frame, columns, atoms, room, into) }
     }
 }
 
 /// How many atoms a line has, by the last axis, if there is one.
-fn columns_of(line: &[usize]) -> usize
+pub fn columns_of(line: &[usize]) -> usize
     requires { length line.now ≤ 1 }
     ensures { result ≡ product line.now }
 {
@@ -133,7 +138,7 @@ fn columns_of(line: &[usize]) -> usize
 }
 
 /// How many atoms there are.
-fn view_len(atoms: View<'_>) -> usize
+pub fn view_len(atoms: View<'_>) -> usize
     ensures { result ≡ length (viewed atoms.entry) }
 {
     match atoms {
@@ -168,7 +173,46 @@ fn show_noun(pool: &mut Pool, y: &Noun, room: usize, into: &mut Vec<u8>) -> Resu
     if view_len(atoms) == 0 {
         return show_no_atoms(y.axes(), room, into);
     }
-    show_atoms(pool, y.axes(), atoms, room, into)
+    match atoms {
+        View::Boxes(contents) => show_boxes(pool, y, contents, room, into),
+        View::Wholes(_) | View::Bits(_) | View::Bytes(_) => {
+            show_atoms(pool, y.axes(), atoms, room, into)
+        }
+    }
+}
+
+/// Shows boxes: what is in them is measured once, and painted once on rows that then are written.
+fn show_boxes(
+    pool: &mut Pool,
+    y: &Noun,
+    contents: &[Noun],
+    room: usize,
+    into: &mut Vec<u8>,
+) -> Result<(), Refusal>
+    requires kind { y.now.kind ≡ Boxed }
+    requires atoms { y.now.atoms ≡ map boxed contents.now }
+    requires some { 0 < length contents.now }
+    requires few { length contents.now ≤ 4194304 }
+    requires many { length contents.now ≡ product y.now.shape }
+    requires rank { length y.now.shape ≤ 32 }
+    ensures { IsShown result (joined (noun_rows y.now)) room into.old.items into.new.items }
+{
+    let mut sizes = Vec::new(pool.alloc());
+    let size = measure(pool, y, &mut sizes)?;
+    let grid = grid_at(y.axes(), contents, &sizes, 0);
+    let long = row_length(grid.widths)?;
+    let row = plus(long, 1)?;
+    let bytes = grid_bytes(grid.frame, grid.heights, row)?;
+    if room < bytes {
+        return Err(Refusal::Fault(Fault::Limit));
+    }
+    let mut canvas = Canvas::new(pool, size.height, long)?;
+    paint(pool, y, &sizes, Spot { next: 0, row: 0 }, 0, &mut canvas)?;
+    let Ok(()) = into.reserve(bytes) else {
+        return Err(Refusal::NoMemory);
+    };
+    canvas.append_to(into);
+    Ok(())
 }
 
 /// Shows a row that is a word.

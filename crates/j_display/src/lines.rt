@@ -42,7 +42,7 @@ fn append_copies(into: &mut Vec<u8>, byte: u8, count: usize)
 }
 
 /// How many stand before piece k, where so many stand between two.
-fn between(k: usize, count: usize) -> usize
+pub fn between(k: usize, count: usize) -> usize
     ensures { result ≡ between k count }
 {
     if k > 0 { count } else { 0 }
@@ -86,7 +86,7 @@ fn append_numbers(atoms: View<'_>, from: usize, widths: &[u8], into: &mut Vec<u8
 }
 
 /// Appends the row of line k.
-fn append_row(lines: Lines<'_>, k: usize, into: &mut Vec<u8>)
+pub fn append_row(lines: Lines<'_>, k: usize, into: &mut Vec<u8>)
     requires line { HasLines lines (k + 1) }
     requires room { vec_len into.old + length (row_at lines k) ≤ vec_capacity into.old }
     ensures items { into.new.items ≡ into.old.items ++ row_at lines.entry k }
