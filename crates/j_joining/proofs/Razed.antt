@@ -22,7 +22,7 @@ use Rattle.j_rank.specs.Assembly.{padded, same_kind}
 use Rattle.j_rank.specs.Joined.{AreBitsOf}
 use Rattle.j_rank.proofs.Joining.{same_self, same_is}
 use Rattle.j_rank.proofs.Paddings.{padded_same}
-use Rattle.j_joining.specs.Joining.{spread, joined, joined_as, items_joined, append, appended, all_joined, ravelled, raze_by, raze}
+use Rattle.j_joining.specs.Joining.{spread, joined, joined_as, items_joined, append, appended, one_item, joined_right, all_joined, ravelled, raze_by, raze}
 use Rattle.j_joining.specs.Brought.{brought, Fits, IsGroup, group_atoms, two_kinds, IsListOf, all_atoms, list_of}
 use Rattle.j_joining.proofs.Beside.{kind_of_two}
 
@@ -104,6 +104,20 @@ pub lists_joined : (k : Kind) (xs ys : List Atom) → items_joined (list_of k xs
 lists_joined k xs ys =
     ap (λ o. joined_as o (list_of k xs) (list_of k ys)) (kind_of_two (list_of k xs) (list_of k ys) ∙ two_alike k _ _) ∙ ap limited (joined_lists k xs ys)
 
+-- an item of an atom or a list
+short_item : (s : List ℕ) → length s ≤ 1 → one_item s ≡ 1 ∷ []
+short_item [] h = refl
+short_item (n ∷ []) h = refl
+short_item (n ∷ m ∷ s) h = absurd (omega arith)
+
+append_lists : (k : Kind) (a b : Array) → IsListOf k a → IsListOf k b → append a b ≡ limited (list_of k (a.atoms ++ b.atoms))
+append_lists k a b left right =
+    ap (λ (t : List ℕ). items_joined (spread t a) (spread (one_item a.shape) b)) (short_item b.shape right.flat)
+    ∙ ap (λ (t : List ℕ). items_joined (spread (1 ∷ []) a) (spread t b)) (short_item a.shape left.flat)
+    ∙ ap (λ (c : Array). items_joined c (spread (1 ∷ []) b)) (list_is k a left)
+    ∙ ap (items_joined (list_of k a.atoms)) (list_is k b right)
+    ∙ lists_joined k a.atoms b.atoms
+
 append_list : (k : Kind) (a : Array) (ys : List Atom) → IsListOf k a → append a (list_of k ys) ≡ limited (list_of k (a.atoms ++ ys))
 append_list k a ys list = ap (λ (b : Array). items_joined b (list_of k ys)) (list_is k a list) ∙ lists_joined k a.atoms ys
 
@@ -129,44 +143,60 @@ joined_before k a ys true list e = append_list k a ys list
 joined_before k a ys false list e = sym (limited-Err (list_of k (a.atoms ++ ys)) (λ w. false_within (list_of k ys) e (within_rest k a.atoms ys w)))
 
 -- lists of a kind are joined as one list of all atoms
+lists_from_right : (k : Kind) (xs : List Array) → All (IsListOf k) xs → 1 < length xs → joined_right xs ≡ limited (list_of k (all_atoms xs))
+lists_from_right k [] all some = absurd (omega arith)
+lists_from_right k (a ∷ []) all some = absurd (omega arith)
+lists_from_right k (a ∷ b ∷ []) all some =
+    append_lists k a b (All-head (IsListOf k) a (b ∷ []) all) (All-head (IsListOf k) b [] (All-tail (IsListOf k) a (b ∷ []) all)) ∙ ap (λ (ys : List Atom). limited (list_of k (a.atoms ++ ys))) (sym (append-nil b.atoms))
+lists_from_right k (a ∷ b ∷ c ∷ rest) all some =
+    ap (appended (Ok a)) (lists_from_right k (b ∷ c ∷ rest) (All-tail (IsListOf k) a (b ∷ c ∷ rest) all) (omega arith))
+    ∙ joined_before k a (all_atoms (b ∷ c ∷ rest)) (is_within (list_of k (all_atoms (b ∷ c ∷ rest)))) (All-head (IsListOf k) a (b ∷ c ∷ rest) all) refl
+
 pub lists_are_joined : (k : Kind) (xs : List Array) → All (IsListOf k) xs → 0 < length xs → all_joined xs ≡ limited (list_of k (all_atoms xs))
 lists_are_joined k [] all some = absurd (omega arith)
 lists_are_joined k (a ∷ []) all some = ap limited (list_is k a (All-head (IsListOf k) a [] all) ∙ ap (list_of k) (sym (append-nil a.atoms)))
-lists_are_joined k (a ∷ b ∷ rest) all some =
-    ap (appended (Ok a)) (lists_are_joined k (b ∷ rest) (All-tail (IsListOf k) a (b ∷ rest) all) (omega arith))
-    ∙ joined_before k a (all_atoms (b ∷ rest)) (is_within (list_of k (all_atoms (b ∷ rest)))) (All-head (IsListOf k) a (b ∷ rest) all) refl
+lists_are_joined k (a ∷ b ∷ rest) all some = lists_from_right k (a ∷ b ∷ rest) all (omega arith)
+
+-- several nouns are joined as they are, and one alone as a list
+pub several_joined : (xs : List Array) (m : Result Array Refusal) → 1 < length xs → OrWanting (joined_right xs) m → OrWanting (all_joined xs) m
+several_joined [] m some h = absurd (omega arith)
+several_joined (a ∷ []) m some h = absurd (omega arith)
+several_joined (a ∷ b ∷ rest) m some h = h
+
+pub one_joined : (xs : List Array) (a : Array) (m : Result Array Refusal) → length xs ≡ 1 → a ≡ get_or xs 0 a → OrWanting (all_joined (a ∷ [])) m → OrWanting (all_joined xs) m
+one_joined [] a m one is h = absurd (omega arith)
+one_joined (x ∷ []) a m one is h = subst (λ (b : Array). OrWanting (all_joined (b ∷ [])) m) is h
+one_joined (x ∷ y ∷ xs) a m one is h = absurd (omega arith)
 
 -- one noun more on the left
-joined_on : (a : Array) (ds : List Array) (b : Array) → 0 < length ds → all_joined ds ≡ Ok b → all_joined (a ∷ ds) ≡ append a b
+joined_on : (a : Array) (ds : List Array) (b : Array) → 0 < length ds → joined_right ds ≡ Ok b → joined_right (a ∷ ds) ≡ append a b
 joined_on a [] b some e = absurd (omega arith)
 joined_on a (d ∷ ds) b some e = ap (appended (Ok a)) e
 
-pub joined_more : (xs : List Array) (k j : ℕ) (a b : Array) → j ≡ k + 1 → j < length xs → a ≡ get_or xs k a → all_joined (drop j xs) ≡ Ok b → all_joined (drop k xs) ≡ append a b
+pub joined_more : (xs : List Array) (k j : ℕ) (a b : Array) → j ≡ k + 1 → j < length xs → a ≡ get_or xs k a → joined_right (drop j xs) ≡ Ok b → joined_right (drop k xs) ≡ append a b
 joined_more xs k j a b next h is e =
     let low : k < length xs = omega arith in
-    ap all_joined (drop_more xs k a low ∙ ap (λ (w : Array). w ∷ drop (k + 1) xs) (sym is))
-    ∙ joined_on a (drop (k + 1) xs) b (omega (arith, length-drop (k + 1) xs)) (ap (λ i. all_joined (drop i xs)) (sym next) ∙ e)
+    ap joined_right (drop_more xs k a low ∙ ap (λ (w : Array). w ∷ drop (k + 1) xs) (sym is))
+    ∙ joined_on a (drop (k + 1) xs) b (omega (arith, length-drop (k + 1) xs)) (ap (λ i. joined_right (drop i xs)) (sym next) ∙ e)
 
-fault_on : (a : Array) (ds : List Array) (e : Fault) → 0 < length ds → all_joined ds ≡ Err e → all_joined (a ∷ ds) ≡ Err e
+fault_on : (a : Array) (ds : List Array) (e : Fault) → 0 < length ds → joined_right ds ≡ Err e → joined_right (a ∷ ds) ≡ Err e
 fault_on a [] e some h = absurd (omega arith)
 fault_on a (d ∷ ds) e some h = ap (appended (Ok a)) h
 
 -- a fault stays
-fault_stays : (xs : List Array) (k : ℕ) (e : Fault) → k < length xs → all_joined (drop k xs) ≡ Err e → all_joined xs ≡ Err e
+fault_stays : (xs : List Array) (k : ℕ) (e : Fault) → k < length xs → joined_right (drop k xs) ≡ Err e → joined_right xs ≡ Err e
 fault_stays xs zero e h f = f
 fault_stays [] (suc k) e h f = absurd (omega arith)
 fault_stays (a ∷ xs) (suc k) e h f = fault_on a xs e (omega arith) (fault_stays xs k e (omega arith) f)
 
-pub refused_stays : (xs : List Array) (k : ℕ) (said : Result Array Fault) (r : Refusal) → k < length xs → all_joined (drop k xs) ≡ said → OrWanting said (Err r) → OrWanting (all_joined xs) (Err r)
+pub refused_stays : (xs : List Array) (k : ℕ) (said : Result Array Fault) (r : Refusal) → k < length xs → joined_right (drop k xs) ≡ said → OrWanting said (Err r) → OrWanting (joined_right xs) (Err r)
 refused_stays xs k said (RefusedFault e) h is f = fault_stays xs k e h (is ∙ f)
 refused_stays xs k said NoMemory h is f = tt
 
-pub last_dropped : (xs : List Array) (k : ℕ) (a : Array) → k + 1 ≡ length xs → a ≡ get_or xs k a → all_joined (drop k xs) ≡ all_joined (a ∷ [])
-last_dropped xs k a e is =
-    ap all_joined (drop_more xs k a (omega arith) ∙ ap (λ (w : Array). w ∷ drop (k + 1) xs) (sym is) ∙ ap (λ r. a ∷ r) (nil_from_length (drop (k + 1) xs) (omega (arith, length-drop (k + 1) xs))))
-
-pub refused_last : (xs : List Array) (k : ℕ) (a : Array) (r : Refusal) → k + 1 ≡ length xs → a ≡ get_or xs k a → OrWanting (all_joined (a ∷ [])) (Err r) → OrWanting (all_joined xs) (Err r)
-refused_last xs k a r e is f = refused_stays xs k (all_joined (a ∷ [])) r (omega arith) (last_dropped xs k a e is) f
+pub last_dropped : (xs : List Array) (k : ℕ) (a b : Array) → k + 1 ≡ length xs → a ≡ get_or xs k a → b ≡ a → joined_right (drop k xs) ≡ Ok b
+last_dropped xs k a b e is same =
+    ap joined_right (drop_more xs k a (omega arith) ∙ ap (λ (w : Array). w ∷ drop (k + 1) xs) (sym is) ∙ ap (λ r. a ∷ r) (nil_from_length (drop (k + 1) xs) (omega (arith, length-drop (k + 1) xs))))
+    ∙ ap (λ (w : Array). let r : Result Array Fault = Ok w in r) (sym same)
 
 pub opened_contents : (vs : List Array) → map opened (map boxed vs) ≡ vs
 opened_contents [] = refl

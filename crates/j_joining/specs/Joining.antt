@@ -92,11 +92,17 @@ as_boxes_by Character y = in_box y
 abbrev pub link : Array → Array → Result Array Fault
 link x y = appended (in_box x) (as_boxes_by y.kind y)
 
--- nouns joined by their items from the right: one atom is a list, and none are an empty list of numbers
+-- nouns joined by their items, the last two first; none are an empty list of numbers
+abbrev pub joined_right : List Array → Result Array Fault
+joined_right [] = Ok (record { kind = Number; shape = 0 ∷ []; atoms = [] })
+joined_right (a ∷ []) = Ok a
+joined_right (a ∷ b ∷ rest) = appended (Ok a) (joined_right (b ∷ rest))
+
+-- the same where one noun alone that is an atom is a list
 abbrev pub all_joined : List Array → Result Array Fault
-all_joined [] = Ok (record { kind = Number; shape = 0 ∷ []; atoms = [] })
+all_joined [] = joined_right []
 all_joined (a ∷ []) = limited (spread (1 ∷ []) a)
-all_joined (a ∷ b ∷ rest) = appended (Ok a) (all_joined (b ∷ rest))
+all_joined (a ∷ b ∷ rest) = joined_right (a ∷ b ∷ rest)
 
 -- the list of all atoms
 abbrev pub ravelled : Array → Array

@@ -83,6 +83,8 @@ pub fn worked_razes()
     ensures none { raze (boxes_in (0 ∷ []) []) ≡ Ok (numbers_in (0 ∷ []) []) }
     ensures texts { raze (boxes_in (3 ∷ []) (bytes_in (1 ∷ []) (65 ∷ []) ∷ bytes_in [] (66 ∷ []) ∷ bytes_in (2 ∷ []) (67 ∷ 68 ∷ []) ∷ [])) ≡ Ok (bytes_in (4 ∷ []) (65 ∷ 66 ∷ 67 ∷ 68 ∷ [])) }
     ensures from_the_right { raze (boxes_in (3 ∷ []) (numbers_in (2 ∷ []) (1 ∷ 2 ∷ []) ∷ numbers_in [] (3 ∷ []) ∷ numbers_in (1 ∷ 3 ∷ []) (4 ∷ 5 ∷ 6 ∷ []) ∷ [])) ≡ Ok (numbers_in (3 ∷ 3 ∷ []) (1 ∷ 2 ∷ 0 ∷ 3 ∷ 3 ∷ 3 ∷ 4 ∷ 5 ∷ 6 ∷ [])) }
+    ensures atom_behind_table { raze (boxes_in (2 ∷ []) (numbers_in (2 ∷ 3 ∷ []) (0 ∷ 1 ∷ 2 ∷ 3 ∷ 4 ∷ 5 ∷ []) ∷ numbers_in [] (5 ∷ []) ∷ [])) ≡ Ok (numbers_in (3 ∷ 3 ∷ []) (0 ∷ 1 ∷ 2 ∷ 3 ∷ 4 ∷ 5 ∷ 5 ∷ 5 ∷ 5 ∷ [])) }
+    ensures atoms_behind_table { raze (boxes_in (3 ∷ []) (numbers_in (1 ∷ 3 ∷ []) (0 ∷ 1 ∷ 2 ∷ []) ∷ numbers_in [] (5 ∷ []) ∷ numbers_in [] (6 ∷ []) ∷ [])) ≡ Ok (numbers_in (2 ∷ 3 ∷ []) (0 ∷ 1 ∷ 2 ∷ 5 ∷ 6 ∷ 0 ∷ [])) }
     ensures one_level { raze (boxes_in (2 ∷ []) (boxes_in [] (numbers_in [] (5 ∷ []) ∷ []) ∷ boxes_in (1 ∷ []) (numbers_in [] (6 ∷ []) ∷ []) ∷ [])) ≡ Ok (boxes_in (2 ∷ []) (numbers_in [] (5 ∷ []) ∷ numbers_in [] (6 ∷ []) ∷ [])) }
     ensures table_of_boxes { raze (boxes_in (2 ∷ 1 ∷ []) (numbers_in [] (5 ∷ []) ∷ numbers_in [] (6 ∷ []) ∷ [])) ≡ Ok (numbers_in (2 ∷ []) (5 ∷ 6 ∷ [])) }
     ensures empty_contents { raze (boxes_in (2 ∷ []) (numbers_in (0 ∷ []) [] ∷ bytes_in (1 ∷ []) (65 ∷ []) ∷ [])) ≡ Ok (bytes_in (1 ∷ []) (65 ∷ [])) }

@@ -7,7 +7,7 @@ ghost use Rattle.j_definitions.specs.declared.Kind.TheVariants.{Number as Number
 ghost use Rattle.j_noun.specs.Held.{AreAtoms};
 ghost use Rattle.j_noun.specs.Refused.{OrWanting};
 ghost use Rattle.j_rank.specs.Joined.{AreBitsOf};
-ghost use Rattle.j_joining.specs.Joining.{ravelled, all_joined, raze};
+ghost use Rattle.j_joining.specs.Joining.{ravelled, joined_right, all_joined, raze};
 ghost use Rattle.j_joining.specs.Brought.{IsListOf, all_atoms, list_of};
 
 use crate::groups::{Group, append_bits, append_bytes, append_nouns, append_numbers};
@@ -202,16 +202,14 @@ fn as_list(pool: &mut Pool, y: &Noun) -> Result<Noun, Refusal>
     Ok(y.duplicate()?)
 }
 
-// Nouns joined by their items, from the right.
+// Several nouns joined by their items, from the right.
+#[tactic(auto, using(crate::proofs::Razed::last_dropped))]
 fn joined_from_right(pool: &mut Pool, nouns: &[Noun]) -> Result<Noun, Refusal>
     requires { 0 < length nouns.now }
-    ensures { OrWanting (all_joined nouns.now) result }
+    ensures { OrWanting (joined_right nouns.now) result }
 {
     let mut k = nouns.len() - 1;
-    let mut all = match as_list(pool, &nouns[k]) {
-        Ok(list) => list,
-        Err(refusal) => return Err(refusal),
-    };
+    let mut all = nouns[k].duplicate()?;
     while k > 0 {
         k -= 1;
         all = match append(pool, &nouns[k], &all) {
@@ -222,7 +220,8 @@ fn joined_from_right(pool: &mut Pool, nouns: &[Noun]) -> Result<Noun, Refusal>
     Ok(all)
 }
 
-// Nouns joined by their items, in one pass where they are lists of a kind.
+// Nouns joined by their items, in one pass where they are lists of a kind. One noun alone that is an atom is a list.
+#[tactic(auto, using(crate::proofs::Razed::one_joined, crate::proofs::Razed::several_joined))]
 fn all_joined(pool: &mut Pool, nouns: &[Noun]) -> Result<Noun, Refusal>
     ensures { OrWanting (all_joined nouns.now) result }
 {
@@ -232,6 +231,9 @@ fn all_joined(pool: &mut Pool, nouns: &[Noun]) -> Result<Noun, Refusal>
     let kind = nouns[0].kind();
     if are_lists(kind, nouns) {
         return flattened(pool, kind, nouns);
+    }
+    if nouns.len() == 1 {
+        return as_list(pool, &nouns[0]);
     }
     joined_from_right(pool, nouns)
 }
