@@ -6,3 +6,10 @@ pub mod Answering
 pub mod Runs
 pub mod Copies
 pub mod Indexed
+pub mod KindTests
+pub mod Taken
+pub mod BoxIndices
+pub mod Placings
+pub mod Reached
+pub mod Listings
+pub mod ListPlaces

@@ -1,5 +1,5 @@
 -- `{ y`: all choices of one atom from each content.
-use Rattle.std.specs.Prelude.{ℕ, List, [], ◌∷◌, length, map, Option, Some, None, Result, Ok, Err}
+use Rattle.std.specs.Prelude.{List, [], ◌∷◌, length, map, Option, Some, None, Result, Ok, Err}
 use Rattle.std.specs.List.{flat_map}
 use Rattle.j_definitions.specs.Array.{Array, Atom, opened, boxed}
 use Rattle.j_definitions.specs.Limits.{limited}

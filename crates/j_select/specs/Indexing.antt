@@ -1,6 +1,6 @@
 -- `x { y`: items, and cells along several axes.
-use Rattle.std.specs.Prelude.{ℕ, ℤ, Bool, true, false, nat_lt, cond, List, [], ◌∷◌, length, map, take, Option, Some, None, Result, Err}
-use Rattle.std.specs.List.{flat_map, list_any}
+use Rattle.std.specs.Prelude.{ℕ, ◌+◌, ◌<◌, ℤ, Bool, true, false, nat_lt, cond, List, [], ◌∷◌, length, map, take, Option, Some, None, Result, Err}
+use Rattle.std.specs.List.{All, flat_map, list_any}
 use Rattle.j_definitions.specs.Array.{Array, Atom, number, byte, nested, opened, atoms_in, tally}
 use Rattle.j_definitions.specs.Cells.{atom_at, in_order}
 use Rattle.j_definitions.specs.Limits.{limited}
@@ -37,6 +37,17 @@ unless_fault None r = r
 abbrev pub places_in : List ℕ → List Array → List (Result (List ℕ) Fault)
 places_in (n ∷ s) (a ∷ nouns) = and_then (whole_numbers a.atoms) (indices_in n) ∷ places_in s nouns
 places_in _ _ = []
+
+-- places within their axes
+abbrev pub AreInside : List ℕ → List (List ℕ) → Type 0
+AreInside [] [] = Unit {0}
+AreInside (n ∷ s) [] = Unit {0}
+AreInside [] (ks ∷ rest) = ⊥
+AreInside (n ∷ s) (ks ∷ rest) = All (λ k. k < n) ks × AreInside s rest
+
+-- the places of all choices in the whole, from one on
+abbrev pub places_from : ℕ → List ℕ → List (List ℕ) → List ℕ
+places_from start s taken = map (λ c. start + place s c) (choices taken)
 
 -- the cells at all choices of places along the leading axes, in the index nouns' shapes joined
 abbrev pub cells_chosen : List Array → Array → List (List ℕ) → Array

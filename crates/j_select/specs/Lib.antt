@@ -5,3 +5,7 @@ pub mod Seen
 pub mod Selecting
 pub mod Indexing
 pub mod Catalogue
+pub mod Amending
+pub mod Putting
+pub mod Joining
+pub mod Listed

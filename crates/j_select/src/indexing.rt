@@ -3,11 +3,12 @@ ghost use Rattle.std.specs.Prelude.{◌≡◌, [], length, map};
 ghost use Rattle.j_definitions.specs.Array.{product};
 ghost use Rattle.j_noun.specs.Refused.{OrWanting};
 ghost use Rattle.j_select.specs.Selecting.{items_indexed};
-ghost use Rattle.j_select.specs.Indexing.{from_numbers, from_list};
+ghost use Rattle.j_select.specs.Indexing.{from, from_numbers, from_list};
 
+use crate::axes::from_box;
 use crate::numbers::{Numbers, Whole, numbers_of, places_of};
 use crate::selecting::cells_at;
-use j_noun::{Atoms, Fault, Noun, Pool, Refusal, Shape};
+use j_noun::{Atoms, Fault, Noun, Pool, Refusal, Shape, View};
 
 // The items at indices, in a frame.
 fn items_indexed<N: Whole>(
@@ -60,5 +61,18 @@ pub fn from_list(pool: &mut Pool, x: &Noun, y: &Noun) -> Result<Noun, Refusal>
         None => Err(Refusal::Fault(Fault::Domain)),
         Some(Numbers::Wholes(v)) => from_numbers(pool, x.shape(), v, y),
         Some(Numbers::Bits(v)) => from_numbers(pool, x.shape(), v, y),
+    }
+}
+
+/// `x { y`, where x is an atom.
+pub fn from(pool: &mut Pool, x: &Noun, y: &Noun) -> Result<Noun, Refusal>
+    requires { x.now.shape ≡ [] }
+    ensures { OrWanting (from x.now y.now) result }
+{
+    match x.view() {
+        View::Wholes(v) => items_indexed(pool, Shape::new(), v, y),
+        View::Bits(v) => items_indexed(pool, Shape::new(), v, y),
+        View::Bytes(_) => Err(Refusal::Fault(Fault::Domain)),
+        View::Boxes(v) => from_box(pool, &v[0], y),
     }
 }

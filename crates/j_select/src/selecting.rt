@@ -49,8 +49,8 @@ fn atoms_at(
     }
 }
 
-// The axes behind the n leading ones.
-fn behind(axes: &[usize], n: usize) -> &[usize]
+/// The axes behind the n leading ones.
+pub fn behind(axes: &[usize], n: usize) -> &[usize]
     ensures { result.now ≡ drop n axes.now }
 {
     if n < axes.len() { &axes[n..] } else { &[] }

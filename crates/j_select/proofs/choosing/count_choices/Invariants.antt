@@ -1,0 +1,6 @@
+use Rattle.std.proofs.Common.{◌≡◌, map, take, length}
+use Rattle.j_definitions.specs.Array.{Array}
+use Rattle.j_select.proofs.choosing.count_choices.Given as goal
+
+abbrev pub invariant-loop-content : goal.invariant-loop-content
+invariant-loop-content l = l.sizes.items ≡ map (λ (a : Array). length a.atoms) (take l.content-index l.contents)
