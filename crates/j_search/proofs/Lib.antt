@@ -8,3 +8,5 @@ pub mod Ranks
 pub mod Grading
 pub mod Lost
 pub mod Alike
+pub mod Searching
+pub mod Tables

@@ -23,7 +23,7 @@ use Rattle.std.proofs.lemmas.Map.Keys.{apart_from_distinct, IsDistinct-from_apar
 use Rattle.j_search.specs.declared.order.Direction.TheVariants.{Up, Down}
 use Rattle.j_search.specs.Matching.{places, first_of}
 use Rattle.j_search.specs.Sought.{run}
-use Rattle.j_search.specs.Graded.{run_cmp, run_order, places_with, pair_cmp, IsKeyed, IsKeyedBack}
+use Rattle.j_search.specs.Graded.{run_cmp, run_order, places_with, pair_cmp, IsAscending, IsKeyed, IsKeyedBack}
 use Rattle.j_search.proofs.Picks.{first_at}
 
 abbrev one_if : Bool → ℕ
@@ -54,7 +54,7 @@ module _ (R : ℕ → ℕ → Ordering) (o : IsTotalOrder R) (apart : (i j : ℕ
   abbrev earlier : ℕ → ℕ
   earlier j = count_by (λ i. is_lt (R i j)) (places n)
 
-  long : length ks ≡ n
+  pub long : length ks ≡ n
   long = length_permutation (places n) ks moved ∙ length-range_with_len 0 n
 
   distinct : IsDistinct nat_eq ks
@@ -65,7 +65,7 @@ module _ (R : ℕ → ℕ → Ordering) (o : IsTotalOrder R) (apart : (i j : ℕ
       ap (λ m. nat_eq m (get_or (places n) j d)) (get_or-range_with_len 0 n i d (omega arith)) ∙ ap (λ m. nat_eq (0 + i) m) (get_or-range_with_len 0 n j d many)
       ∙ ne_eqb (0 + i) (0 + j) (λ e. omega arith)))
 
-  later : (r s : ℕ) → r ≤ s → s < n → is_lt (R (get_or ks s 0) (get_or ks r 0)) ≡ false
+  pub later : (r s : ℕ) → r ≤ s → s < n → is_lt (R (get_or ks s 0) (get_or ks r 0)) ≡ false
   later r s l u = sorted_far (λ x y. is_lt (R x y)) (ranks_by o (λ x. x)) ks sorted r s 0 l (omega (arith, long))
 
   differ : (r s : ℕ) → r < s → s < n → get_or ks r 0 ≡ get_or ks s 0 → ⊥
@@ -85,14 +85,14 @@ module _ (R : ℕ → ℕ → Ordering) (o : IsTotalOrder R) (apart : (i j : ℕ
       ∙ count_front (λ i. is_lt (R i (get_or ks r 0))) ks r (omega (arith, long)) (λ s l. less s r l h) (λ s l u. later r s l (omega (arith, long)))
 
   -- a place below n stands somewhere
-  stands : (k : ℕ) → k < n → (s : ℕ) × (s < n) × (get_or ks s 0 ≡ k)
+  pub stands : (k : ℕ) → k < n → (s : ℕ) × (s < n) × (get_or ks s 0 ≡ k)
   stands k h =
       let there : Contains (places n) k = subst (Contains (places n)) (get_or-range_with_len 0 n k 0 h ∙ zero_plus k) (Contains-get_or (places n) k 0 (omega (arith, length-range_with_len 0 n))) in
       let at = Contains-permutation (places n) ks k moved there in
       let within : at.0 < n = omega (arith, at.1, long) in
       (at.0, within, get_or_default ks at.0 0 k at.1 ∙ at.2)
 
-  below : (r : ℕ) → r < n → get_or ks r 0 < n
+  pub below : (r : ℕ) → r < n → get_or ks r 0 < n
   below r h =
       All-contains (λ k. k < n) ks (get_or ks r 0) (All-permutation (λ k. k < n) (places n) ks moved (All-places n)) (Contains-get_or ks r 0 (omega (arith, long)))
 
@@ -140,25 +140,30 @@ pub within_places : {K : Type 0} (keys vs : List (K × ℕ)) (n : ℕ) → place
 within_places keys vs n e h = All-permutation (λ k. k < n) (places n) (places_with vs) (moved_places keys vs n e h) (All-places n)
 
 module _ {X : Type 0} (C : X → X → Ordering) (o : IsTotalOrder C) (size n : ℕ) (xs : List X) where
-  up_total : IsTotalOrder (run_cmp C Up size xs)
+  pub up_total : IsTotalOrder (run_cmp C Up size xs)
   up_total = then_total (on_total (run size xs) (lists_total o)) nat_cmp_total
 
   down_total : IsTotalOrder (run_cmp C Down size xs)
   down_total = then_total (back_total (on_total (run size xs) (lists_total o))) nat_cmp_total
 
-  up_apart : (i j : ℕ) → run_cmp C Up size xs i j ≡ Equal → i ≡ j
+  pub up_apart : (i j : ℕ) → run_cmp C Up size xs i j ≡ Equal → i ≡ j
   up_apart i j e = nat_equal i j (then_equal (slice_cmp C (run size xs i) (run size xs j)) (nat_cmp i j) e)
 
   down_apart : (i j : ℕ) → run_cmp C Down size xs i j ≡ Equal → i ≡ j
   down_apart i j e = nat_equal i j (then_equal (slice_cmp C (run size xs j) (run size xs i)) (nat_cmp i j) e)
 
-  pub up_graded : (keys vs : List (Bor (List X) × ℕ)) → places_with keys ≡ places n → All (IsKeyed size xs) keys → IsPermutation keys vs → IsSorted (pair_cmp (λ x y. slice_cmp C x.now y.now)) vs →
-      places_with vs ≡ run_order C Up size n xs
-  up_graded keys vs e all moved sorted =
-      in_order (run_cmp C Up size xs) up_total up_apart n (places_with vs) (moved_places keys vs n e moved)
-      (keyed_sorted (λ p. p.1) (pair_cmp (λ x y. slice_cmp C x.now y.now)) (IsKeyed size xs) (run_cmp C Up size xs)
-      (λ p q hp hq. ap (λ us. ordering_then (slice_cmp C us q.0.now) (nat_cmp p.1 q.1)) hp ∙ ap (λ us. ordering_then (slice_cmp C (run size xs p.1) us) (nat_cmp p.1 q.1)) hq)
-      vs (All-permutation (IsKeyed size xs) keys vs moved all) sorted)
+  pub up_ascending : (keys vs : List (Bor (List X) × ℕ)) → places_with keys ≡ places n → All (IsKeyed size xs) keys → IsPermutation keys vs → IsSorted (pair_cmp (λ x y. slice_cmp C x.now y.now)) vs →
+      IsAscending C size n xs (places_with vs)
+  up_ascending keys vs e all moved sorted = record {
+    moved = moved_places keys vs n e moved;
+    sorted = keyed_sorted (λ p. p.1) (pair_cmp (λ x y. slice_cmp C x.now y.now)) (IsKeyed size xs) (run_cmp C Up size xs)
+        (λ p q hp hq. ap (λ us. ordering_then (slice_cmp C us q.0.now) (nat_cmp p.1 q.1)) hp ∙ ap (λ us. ordering_then (slice_cmp C (run size xs p.1) us) (nat_cmp p.1 q.1)) hq)
+        vs (All-permutation (IsKeyed size xs) keys vs moved all) sorted;
+    within = within_places keys vs n e moved;
+  }
+
+  pub up_graded : (ks : List ℕ) → IsAscending C size n xs ks → ks ≡ run_order C Up size n xs
+  up_graded ks a = in_order (run_cmp C Up size xs) up_total up_apart n ks a.moved a.sorted
 
   pub down_graded : (keys vs : List (Reverse (Bor (List X)) × ℕ)) → places_with keys ≡ places n → All (IsKeyedBack size xs) keys → IsPermutation keys vs → IsSorted (pair_cmp (λ x y. slice_cmp C y.0.now x.0.now)) vs →
       places_with vs ≡ run_order C Down size n xs
@@ -184,3 +189,12 @@ ok_same (Err x) e h = tt
 pub ok_below : {E : Type 0} (r : Result (Vec ℕ Global) E) (n : ℕ) (zs : List ℕ) → All (λ k. k < n) zs → IfOk r (λ v. v.items ≡ zs) → IfOk r (λ v. All (λ k. k < n) v.items)
 ok_below (Ok v) n zs all h = subst (All (λ k. k < n)) (sym h) all
 ok_below (Err x) n zs all h = tt
+
+-- what holds of one list holds of a buffer with it
+pub ok_holds : {X E : Type 0} (r : Result (Vec X Global) E) (Q : List X → Type 0) {zs : List X} → Q zs → IfOk r (λ v. v.items ≡ zs) → IfOk r (λ v. Q v.items)
+ok_holds (Ok v) Q q h = subst Q (sym h) q
+ok_holds (Err x) Q q h = tt
+
+pub ok_then : {X E : Type 0} (r : Result (Vec X Global) E) (P Q : List X → Type 0) → ((xs : List X) → P xs → Q xs) → IfOk r (λ v. P v.items) → IfOk r (λ v. Q v.items)
+ok_then (Ok v) P Q f h = f v.items h
+ok_then (Err x) P Q f h = tt

@@ -1,5 +1,7 @@
 -- What the crate's own functions of order say.
-use Rattle.std.specs.Prelude.{◌≡◌, ℕ, List, map}
+use Rattle.std.specs.Prelude.{◌≡◌, ◌<◌, ℕ, List, map}
+use Rattle.std.specs.List.{All}
+use Rattle.std.specs.List.Sorted.{IsPermutation, IsSortedBy}
 use Rattle.std.specs.Borrow.{Bor}
 use Rattle.std.specs.declared.cmp.Ordering.{Ordering}
 use Rattle.std.specs.declared.cmp.Reverse.{Reverse}
@@ -9,6 +11,7 @@ use Rattle.j_search.specs.declared.order.Direction.{Direction}
 use Rattle.j_search.specs.declared.order.Direction.TheVariants.{Up, Down}
 use Rattle.j_search.specs.Sought.{run}
 use Rattle.j_search.specs.Order.{ranked}
+use Rattle.j_search.specs.Matching.{places}
 
 -- the order of two runs, and of equal ones that of their places
 abbrev pub run_cmp : {X : Type 0} → (X → X → Ordering) → Direction → ℕ → List X → ℕ → ℕ → Ordering
@@ -33,3 +36,9 @@ IsKeyed size xs p = p.0.now ≡ run size xs p.1
 
 abbrev pub IsKeyedBack : {X : Type 0} → ℕ → List X → Reverse (Bor (List X)) × ℕ → Type 0
 IsKeyedBack size xs p = p.0.0.now ≡ run size xs p.1
+
+-- all places of so many runs, in the ascending order of the runs, and equal ones in their own
+pub record IsAscending {X : Type 0} (C : X → X → Ordering) (size n : ℕ) (xs : List X) (ks : List ℕ) : Type 0 where
+  pub moved : IsPermutation (places n) ks
+  pub sorted : IsSortedBy (λ i j. is_lt (run_cmp C Up size xs i j)) ks
+  pub within : All (λ k. k < n) ks

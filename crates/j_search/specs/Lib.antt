@@ -5,3 +5,6 @@ pub mod Kept
 pub mod Order
 pub mod Graded
 pub mod Rows
+pub mod Searched
+pub mod Tabled
+pub mod Numbers

@@ -5,6 +5,7 @@ ghost use Rattle.j_noun.specs.Viewed.{viewed};
 ghost use Rattle.j_search.specs.Sought.{atom_places};
 
 use crate::seeking::{Side, Sizes, find_each};
+use crate::ways::find_numbers;
 use j_noun::{NoMemory, Noun, Pool, View};
 use j_rank::filled;
 
@@ -45,10 +46,10 @@ fn among_wholes(
     ensures { IfOk result (λ v. v.items ≡ atom_places side sizes.size sizes.items sizes.cells (map number a.now) (viewed y.entry)) }
 {
     match y {
-        View::Wholes(b) => find_each(pool, side, sizes, a, b),
+        View::Wholes(b) => find_numbers(pool, side, sizes, a, b),
         View::Bits(b) => {
             let numbers = widened(pool, b)?;
-            find_each(pool, side, sizes, a, &numbers)
+            find_numbers(pool, side, sizes, a, &numbers)
         }
         View::Bytes(_) => everywhere(pool, sizes.items, sizes.cells),
         View::Boxes(_) => everywhere(pool, sizes.items, sizes.cells),
@@ -72,9 +73,9 @@ fn among_bits(
     match y {
         View::Wholes(b) => {
             let numbers = widened(pool, a)?;
-            find_each(pool, side, sizes, &numbers, b)
+            find_numbers(pool, side, sizes, &numbers, b)
         }
-        View::Bits(b) => find_each(pool, side, sizes, a, b),
+        View::Bits(b) => find_numbers(pool, side, sizes, a, b),
         View::Bytes(_) => everywhere(pool, sizes.items, sizes.cells),
         View::Boxes(_) => everywhere(pool, sizes.items, sizes.cells),
     }
@@ -97,7 +98,7 @@ fn among_bytes(
     match y {
         View::Wholes(_) => everywhere(pool, sizes.items, sizes.cells),
         View::Bits(_) => everywhere(pool, sizes.items, sizes.cells),
-        View::Bytes(b) => find_each(pool, side, sizes, a, b),
+        View::Bytes(b) => find_numbers(pool, side, sizes, a, b),
         View::Boxes(_) => everywhere(pool, sizes.items, sizes.cells),
     }
 }

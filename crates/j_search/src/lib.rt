@@ -13,6 +13,9 @@ mod order;
 mod picking;
 mod rows;
 mod seeking;
+mod sought;
+mod tabled;
+mod ways;
 
 pub use cut::CutForm;
 pub use grades::{grade_down, grade_up, sort_down, sort_up};

@@ -2,7 +2,7 @@
 ghost use Rattle.std.specs.Prelude.{◌≡◌, ◌<◌, ◌*◌, length, IfOk};
 ghost use Rattle.std.specs.List.{All};
 ghost use Rattle.std.specs.List.Sorted.{IsPermutation, IsSorted};
-ghost use Rattle.j_search.specs.Graded.{run_order, places_with, pair_cmp, IsKeyed, IsKeyedBack};
+ghost use Rattle.j_search.specs.Graded.{run_order, places_with, pair_cmp, IsAscending, IsKeyed, IsKeyedBack};
 ghost use Rattle.j_search.specs.Matching.{places};
 
 use j_noun::{NoMemory, Pool};
@@ -56,16 +56,14 @@ fn keyed_down<'a, T>(
     Ok(keys)
 }
 
-// The keys in order.
-fn sorted<K: Ord + Drop>(keys: Vec<(K, usize)>) -> Result<Vec<(K, usize)>, NoMemory>
-    ensures permutation { IfOk result (λ v. IsPermutation keys.items v.items) }
-    ensures sorted { IfOk result (λ v. IsSorted (pair_cmp K.cmp) v.items) }
+// The keys in order. No two are alike, since their places differ.
+fn sorted<K: Ord + Drop>(keys: Vec<(K, usize)>) -> Vec<(K, usize)>
+    ensures permutation { IsPermutation keys.items result.items }
+    ensures sorted { IsSorted (pair_cmp K.cmp) result.items }
 {
     let mut keys = keys;
-    match keys.sort() {
-        Ok(()) => Ok(keys),
-        Err(_) => Err(NoMemory),
-    }
+    keys.sort_unstable();
+    keys
 }
 
 // The places that stand with keys.
@@ -81,6 +79,21 @@ fn places_with<K: Drop>(pool: &mut Pool, keys: &[(K, usize)]) -> Result<Vec<usiz
     Ok(places)
 }
 
+/// The places of runs in ascending order, equal ones in theirs.
+pub fn ascending<T: Ord>(
+    pool: &mut Pool,
+    all: &[T],
+    count: usize,
+    size: usize,
+) -> Result<Vec<usize>, NoMemory>
+    requires { length all.now ≡ count * size }
+    ensures { IfOk result (λ v. IsAscending T.cmp size count all.now v.items) }
+{
+    let keys = keyed_up(pool, all, count, size)?;
+    let ordered = sorted(keys);
+    places_with(pool, &ordered)
+}
+
 /// The places of runs in order, equal ones in theirs.
 pub fn graded<T: Ord>(
     pool: &mut Pool,
@@ -94,14 +107,10 @@ pub fn graded<T: Ord>(
     ensures within { IfOk result (λ v. All (λ k. k < count) v.items) }
 {
     match direction {
-        Direction::Up => {
-            let keys = keyed_up(pool, all, count, size)?;
-            let ordered = sorted(keys)?;
-            places_with(pool, &ordered)
-        }
+        Direction::Up => ascending(pool, all, count, size),
         Direction::Down => {
             let back = keyed_down(pool, all, count, size)?;
-            let turned = sorted(back)?;
+            let turned = sorted(back);
             places_with(pool, &turned)
         }
     }

@@ -6,12 +6,12 @@ use Rattle.j_search.proofs.among.among_bits.Goals as goal
 
 pub returns-in_ok-numbers-in-Wholes : goal.returns-in_ok-numbers-in-Wholes
 returns-in_ok-numbers-in-Wholes c =
-    whole_places c.find_each.result c.args.side c.args.sizes.size c.args.sizes.items c.args.sizes.cells c.deref.result.now c.in-Wholes.b.now (map (λ b. number (pos b)) c.args.a.now) (viewed c.args.y)
-    (ap (map number) c.deref.ensures.value ∙ c.in_ok-numbers-in-Wholes.ensures) (sym (ap viewed c.in-Wholes.is)) c.find_each.ensures
+    whole_places c.find_numbers.result c.args.side c.args.sizes.size c.args.sizes.items c.args.sizes.cells c.deref.result.now c.in-Wholes.b.now (map (λ b. number (pos b)) c.args.a.now) (viewed c.args.y)
+    (ap (map number) c.deref.ensures.value ∙ c.in_ok-numbers-in-Wholes.ensures) (sym (ap viewed c.in-Wholes.is)) c.find_numbers.ensures
 
 pub returns-in-Bits : goal.returns-in-Bits
 returns-in-Bits c =
-    bit_places c.find_each-in-Bits.result c.args.side c.args.sizes.size c.args.sizes.items c.args.sizes.cells c.args.a.now c.in-Bits.b.now (map (λ b. number (pos b)) c.args.a.now) (viewed c.args.y) refl (sym (ap viewed c.in-Bits.is)) c.find_each-in-Bits.ensures
+    bit_places c.find_numbers-in-Bits.result c.args.side c.args.sizes.size c.args.sizes.items c.args.sizes.cells c.args.a.now c.in-Bits.b.now (map (λ b. number (pos b)) c.args.a.now) (viewed c.args.y) refl (sym (ap viewed c.in-Bits.is)) c.find_numbers-in-Bits.ensures
 
 pub returns-in-Bytes : goal.returns-in-Bytes
 returns-in-Bytes c =

@@ -16,7 +16,7 @@ returns-in-Bits c =
 
 pub returns-in-Bytes : goal.returns-in-Bytes
 returns-in-Bytes c =
-    byte_places c.find_each.result c.args.side c.args.sizes.size c.args.sizes.items c.args.sizes.cells c.args.a.now c.in-Bytes.b.now (map byte c.args.a.now) (viewed c.args.y) refl (sym (ap viewed c.in-Bytes.is)) c.find_each.ensures
+    byte_places c.find_numbers.result c.args.side c.args.sizes.size c.args.sizes.items c.args.sizes.cells c.args.a.now c.in-Bytes.b.now (map byte c.args.a.now) (viewed c.args.y) refl (sym (ap viewed c.in-Bytes.is)) c.find_numbers.ensures
 
 pub returns-in-Boxes : goal.returns-in-Boxes
 returns-in-Boxes c =

@@ -6,12 +6,12 @@ use Rattle.j_search.proofs.among.among_wholes.Goals as goal
 
 pub returns-in-Wholes : goal.returns-in-Wholes
 returns-in-Wholes c =
-    whole_places c.find_each.result c.args.side c.args.sizes.size c.args.sizes.items c.args.sizes.cells c.args.a.now c.in-Wholes.b.now (map number c.args.a.now) (viewed c.args.y) refl (sym (ap viewed c.in-Wholes.is)) c.find_each.ensures
+    whole_places c.find_numbers.result c.args.side c.args.sizes.size c.args.sizes.items c.args.sizes.cells c.args.a.now c.in-Wholes.b.now (map number c.args.a.now) (viewed c.args.y) refl (sym (ap viewed c.in-Wholes.is)) c.find_numbers.ensures
 
 pub returns-in_ok-numbers-in-Bits : goal.returns-in_ok-numbers-in-Bits
 returns-in_ok-numbers-in-Bits c =
-    whole_places c.find_each-in-Bits.result c.args.side c.args.sizes.size c.args.sizes.items c.args.sizes.cells c.args.a.now c.deref.result.now (map number c.args.a.now) (viewed c.args.y) refl
-    (ap (map number) c.deref.ensures.value ∙ c.in_ok-numbers-in-Bits.ensures ∙ sym (ap viewed c.in-Bits.is)) c.find_each-in-Bits.ensures
+    whole_places c.find_numbers-in-Bits.result c.args.side c.args.sizes.size c.args.sizes.items c.args.sizes.cells c.args.a.now c.deref.result.now (map number c.args.a.now) (viewed c.args.y) refl
+    (ap (map number) c.deref.ensures.value ∙ c.in_ok-numbers-in-Bits.ensures ∙ sym (ap viewed c.in-Bits.is)) c.find_numbers-in-Bits.ensures
 
 pub returns-in-Bytes : goal.returns-in-Bytes
 returns-in-Bytes c =

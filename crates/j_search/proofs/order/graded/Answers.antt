@@ -1,30 +1,28 @@
-use Rattle.std.proofs.Common.{ap, sym, ◌∙◌}
-use Rattle.j_search.specs.Graded.{places_with, run_order}
-use Rattle.j_search.proofs.Ranks.{up_graded, down_graded, within_places, ok_same, ok_below}
+use Rattle.std.proofs.Common.{◌≡◌, ◌<◌, ap, sym, ◌∙◌}
+use Rattle.std.specs.List.{All}
+use Rattle.j_search.specs.Graded.{places_with, run_order, IsAscending}
+use Rattle.j_search.proofs.Ranks.{up_graded, down_graded, within_places, ok_same, ok_below, ok_then}
 use Rattle.j_search.proofs.order.graded.Goals as goal
 
-pub returns-in_ok-ordered-in-Up-clause-order : goal.returns-in_ok-ordered-in-Up-clause-order
-returns-in_ok-ordered-in-Up-clause-order g c =
+pub returns-in-Up-clause-order : goal.returns-in-Up-clause-order
+returns-in-Up-clause-order g c =
+    ok_then c.ascending.result (IsAscending g.T.Ord.cmp c.args.size c.args.count c.args.all.now) (λ ks. ks ≡ run_order g.T.Ord.cmp c.args.direction c.args.size c.args.count c.args.all.now)
+    (λ ks a. up_graded g.T.Ord.cmp g.met.T.Ord.total c.args.size c.args.count c.args.all.now ks a ∙ ap (λ d. run_order g.T.Ord.cmp d c.args.size c.args.count c.args.all.now) (sym c.in-Up.is))
+    c.ascending.ensures
+
+pub returns-in-Up-clause-within : goal.returns-in-Up-clause-within
+returns-in-Up-clause-within g c =
+    ok_then c.ascending.result (IsAscending g.T.Ord.cmp c.args.size c.args.count c.args.all.now) (All (λ k. k < c.args.count)) (λ ks a. a.within) c.ascending.ensures
+
+pub returns-in_ok-back-in-Down-clause-order : goal.returns-in_ok-back-in-Down-clause-order
+returns-in_ok-back-in-Down-clause-order g c =
     ok_same c.places_with.result
     (ap places_with c.deref.ensures.value
-    ∙ up_graded g.T.Ord.cmp g.met.T.Ord.total c.args.size c.args.count c.args.all.now c.in_ok-keys-in-Up.keys.items c.in_ok-ordered-in-Up.ordered.items c.in_ok-keys-in-Up.ensures.places c.in_ok-keys-in-Up.ensures.runs
-    c.in_ok-ordered-in-Up.ensures.permutation c.in_ok-ordered-in-Up.ensures.sorted
-    ∙ ap (λ d. run_order g.T.Ord.cmp d c.args.size c.args.count c.args.all.now) (sym c.in-Up.is)) c.places_with.ensures
+    ∙ down_graded g.T.Ord.cmp g.met.T.Ord.total c.args.size c.args.count c.args.all.now c.in_ok-back-in-Down.back.items c.sorted-turned.result.items c.in_ok-back-in-Down.ensures.places c.in_ok-back-in-Down.ensures.runs
+    c.sorted-turned.ensures.permutation c.sorted-turned.ensures.sorted
+    ∙ ap (λ d. run_order g.T.Ord.cmp d c.args.size c.args.count c.args.all.now) (sym c.in-Down.is)) c.places_with.ensures
 
-pub returns-in_ok-ordered-in-Up-clause-within : goal.returns-in_ok-ordered-in-Up-clause-within
-returns-in_ok-ordered-in-Up-clause-within g c =
-    ok_below c.places_with.result c.args.count _ (within_places c.in_ok-keys-in-Up.keys.items c.in_ok-ordered-in-Up.ordered.items c.args.count c.in_ok-keys-in-Up.ensures.places c.in_ok-ordered-in-Up.ensures.permutation)
+pub returns-in_ok-back-in-Down-clause-within : goal.returns-in_ok-back-in-Down-clause-within
+returns-in_ok-back-in-Down-clause-within g c =
+    ok_below c.places_with.result c.args.count _ (within_places c.in_ok-back-in-Down.back.items c.sorted-turned.result.items c.args.count c.in_ok-back-in-Down.ensures.places c.sorted-turned.ensures.permutation)
     (ok_same c.places_with.result (ap places_with c.deref.ensures.value) c.places_with.ensures)
-
-pub returns-in_ok-turned-in-Down-clause-order : goal.returns-in_ok-turned-in-Down-clause-order
-returns-in_ok-turned-in-Down-clause-order g c =
-    ok_same c.places_with-in-Down.result
-    (ap places_with c.deref-in-Down.ensures.value
-    ∙ down_graded g.T.Ord.cmp g.met.T.Ord.total c.args.size c.args.count c.args.all.now c.in_ok-back-in-Down.back.items c.in_ok-turned-in-Down.turned.items c.in_ok-back-in-Down.ensures.places c.in_ok-back-in-Down.ensures.runs
-    c.in_ok-turned-in-Down.ensures.permutation c.in_ok-turned-in-Down.ensures.sorted
-    ∙ ap (λ d. run_order g.T.Ord.cmp d c.args.size c.args.count c.args.all.now) (sym c.in-Down.is)) c.places_with-in-Down.ensures
-
-pub returns-in_ok-turned-in-Down-clause-within : goal.returns-in_ok-turned-in-Down-clause-within
-returns-in_ok-turned-in-Down-clause-within g c =
-    ok_below c.places_with-in-Down.result c.args.count _ (within_places c.in_ok-back-in-Down.back.items c.in_ok-turned-in-Down.turned.items c.args.count c.in_ok-back-in-Down.ensures.places c.in_ok-turned-in-Down.ensures.permutation)
-    (ok_same c.places_with-in-Down.result (ap places_with c.deref-in-Down.ensures.value) c.places_with-in-Down.ensures)
