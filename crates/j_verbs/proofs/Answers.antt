@@ -17,7 +17,7 @@ use Rattle.j_noun.specs.declared.refusal.Refusal.{Refusal}
 use Rattle.j_noun.specs.declared.refusal.Refusal.TheVariants as refusal
 use Rattle.j_verbs.specs.Answered.{Gives}
 use Rattle.j_verbs.specs.ByRank.{by_ranks}
-use Rattle.j_verbs.specs.Calls.{of_one, of_two}
+use Rattle.j_verbs.specs.Calls.{of_one}
 use Rattle.j_verbs.specs.declared.calls.Monad.{Monad}
 use Rattle.j_verbs.specs.declared.calls.Dyad.{Dyad}
 use Rattle.j_verbs.specs.Laws.{IsNounOrNone, AreZero, scalar}

@@ -9,13 +9,12 @@ use Rattle.std.proofs.lemmas.List.FromFn.{length-range_with_len}
 use Rattle.std.proofs.lemmas.List.Elements.{All-get_or}
 use Rattle.j_definitions.specs.Array.{Array, Atom, number, byte, nested, atom_array, product, IsNoun, IsOfKind}
 use Rattle.j_definitions.specs.Cells.{Agreed, agree, is_prefix, pairs, in_order}
-use Rattle.j_kernels.specs.Scalars.{dyad_of, of_numbers, numbers_of, answers, agreed_dyad, scalar_dyad}
+use Rattle.j_kernels.specs.Scalars.{of_numbers, numbers_of, answers, agreed_dyad, scalar_dyad}
 use Rattle.j_definitions.specs.Cells.{atom_at}
 use Rattle.j_definitions.specs.declared.Kind.{Kind}
 use Rattle.j_definitions.specs.declared.Kind.TheVariants.{Number, Character, Boxed}
 use Rattle.j_definitions.specs.declared.Fault.{Fault}
 use Rattle.j_definitions.specs.declared.Fault.TheVariants.{Limit}
-use Rattle.j_kernels.specs.declared.scalar.Scalar.{Scalar}
 use Rattle.j_noun.specs.declared.ranks.Rank.{Rank}
 use Rattle.j_noun.specs.declared.ranks.Rank.TheVariants as rank
 use Rattle.j_leaves.specs.declared.ranks.Ranks.{Ranks}
@@ -27,7 +26,7 @@ use Rattle.j_rank.specs.Assembly.{assemble}
 use Rattle.j_rank.proofs.Products.{rest_some}
 use Rattle.j_verbs.specs.ByRank.{Doing, Cells, planned_for, pair, with_left, on_pair, on_pairs, fills, fill_result, zero_atom, on_fills, source, by_source, by_plan, by_ranks}
 use Rattle.j_verbs.specs.State.{State, Outcome, then_do, else_do, pure, or_fault}
-use Rattle.j_verbs.specs.Words.{one_number, scalar_cell}
+use Rattle.j_verbs.specs.Words.{one_number}
 use Rattle.j_verbs.proofs.Sources.{none_met, some_met}
 use Rattle.j_verbs.proofs.CellLaw.{atom_cell, fill_cell_limited, IsNumberOr, IsLightOr, all_light, ones_in_order, joined, finish, finish_none, IsFrame, noun_frame}
 use Rattle.j_verbs.proofs.CellMonad.{pure_range}

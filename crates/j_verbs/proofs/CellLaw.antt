@@ -6,8 +6,7 @@ use Rattle.std.specs.Prelude.{neg_ℤ, ◌+ℤ◌, ◌-ℤ◌, ◌*ℤ◌, ◌&&
 use Rattle.std.specs.Int.RustNames.{int_div, int_rem, unsigned_abs}
 use Rattle.std.specs.Int.{int_pow}
 use Rattle.std.specs.Ordering.{int_eq}
-use Rattle.std.proofs.lemmas.List.{length-map, take-map, take_all, drop_all, get_or-drop}
-use Rattle.std.proofs.lemmas.List.Elements.{All-nil, All-cons}
+use Rattle.std.proofs.lemmas.List.{take-map, take_all, drop_all, get_or-drop}
 use Rattle.std.proofs.lemmas.List.Sums.{sum_by-cons}
 use Rattle.j_definitions.specs.Array.{Array, Atom, number, byte, nested, atom_array, product, atom_weight, greatest_level, IsWithin, IsNoun}
 use Rattle.j_definitions.specs.Cells.{Agreed, agree, is_prefix, with_first, in_order}

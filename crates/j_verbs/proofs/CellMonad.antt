@@ -6,11 +6,10 @@ use Rattle.std.proofs.lemmas.Bool.{le-leb}
 use Rattle.std.proofs.lemmas.List.{take_all, drop_all, drop_more}
 use Rattle.j_definitions.specs.Array.{Array, Atom, number, atom_array, product, IsNoun}
 use Rattle.j_definitions.specs.Cells.{in_order}
-use Rattle.j_kernels.specs.Scalars.{monad_of, numbers_of, scalar_monad}
+use Rattle.j_kernels.specs.Scalars.{numbers_of, scalar_monad}
 use Rattle.j_definitions.specs.Cells.{atom_at}
 use Rattle.j_definitions.specs.declared.Fault.{Fault}
 use Rattle.j_definitions.specs.declared.Fault.TheVariants.{Limit}
-use Rattle.j_kernels.specs.declared.scalar.Scalar.{Scalar}
 use Rattle.j_noun.specs.declared.ranks.Rank.{Rank}
 use Rattle.j_noun.specs.declared.ranks.Rank.TheVariants as rank
 use Rattle.j_leaves.specs.declared.ranks.Ranks.{Ranks}
@@ -20,7 +19,7 @@ use Rattle.j_rank.specs.Plans.{Planned, plan_of, monad_plan}
 use Rattle.j_rank.specs.Assembly.{assemble}
 use Rattle.j_verbs.specs.ByRank.{Doing, Cells, planned_for, pair, with_right, on_pair, over_pairs, on_pairs, fill_result, zero_atom, on_fills, source, by_source, by_plan, by_ranks}
 use Rattle.j_verbs.specs.State.{State, Outcome, then_do, else_do, ◌>>=◌, pure, or_fault}
-use Rattle.j_verbs.specs.Words.{one_number, scalar_cell}
+use Rattle.j_verbs.specs.Words.{one_number}
 use Rattle.j_verbs.proofs.Sources.{none_met, some_met}
 use Rattle.j_verbs.proofs.CellLaw.{pure_first, atom_cell, fill_cell_limited, IsNumberOr, IsLightOr, all_light, ones_in_order, joined, finish, finish_none, noun_frame}
 

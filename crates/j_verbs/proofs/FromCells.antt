@@ -1,14 +1,14 @@
 -- `x { y` for all numbers x at once is what the rule of cells makes of it.
-use Rattle.std.proofs.Common.{◌≡◌, ◌<◌, ◌≤◌, ◌+◌, ◌-◌, ◌*◌, ◌/◌, ℕ, ℤ, pos, negsuc, Bool, true, false, nat_lt, ◌&&◌, cond, List, [], ◌∷◌, ◌++◌, length, map, take, drop, replicate, get_or, arith, refl, sym, ap, subst, ◌∙◌, rules, tests, Option, Some, None, Result, Ok, Err}
+use Rattle.std.proofs.Common.{◌≡◌, ◌<◌, ◌≤◌, ◌+◌, ◌-◌, ◌*◌, ◌/◌, ℕ, ℤ, pos, negsuc, Bool, true, false, nat_lt, ◌&&◌, cond, List, [], ◌∷◌, ◌++◌, length, map, take, drop, replicate, arith, refl, sym, ap, subst, ◌∙◌, rules, tests, Some, None, Result, Ok, Err}
 use Prim.Native.Nat.{zero, suc}
-use Rattle.std.specs.Prelude.{max, nat_eq, nat_le, fold}
-use Rattle.std.specs.List.{All, flat_map, list_all, range_with_len, sum_by}
-use Rattle.std.proofs.lemmas.Bool.{le-leb, lt-ltb}
+use Rattle.std.specs.Prelude.{max, nat_eq, fold}
+use Rattle.std.specs.List.{All, list_all, range_with_len, sum_by}
+use Rattle.std.proofs.lemmas.Bool.{le-leb}
 use Rattle.std.proofs.lemmas.Nat.{div_below}
 use Rattle.std.proofs.lemmas.List.{take_all, drop_all, drop_more, length-replicate}
 use Rattle.std.proofs.lemmas.List.Sums.{sum_by-take-le, sum_by-cons, sum_by-take-drop}
 use Rattle.std.proofs.lemmas.List.Elements.{All-nil, All-cons, All-head, All-tail, All-drop}
-use Rattle.j_definitions.specs.Array.{Array, Atom, number, byte, nested, atom_array, atom_weight, atom_level, greatest_level, product, tally, fill_atom, weight, level, IsNoun, IsOfKind, IsWithin}
+use Rattle.j_definitions.specs.Array.{Array, Atom, number, byte, nested, atom_array, atom_weight, atom_level, greatest_level, product, tally, fill_atom, IsNoun, IsOfKind, IsWithin}
 use Rattle.j_definitions.specs.Cells.{Agreed, agree, atom_at, in_order, with_first}
 use Rattle.j_definitions.specs.Limits.{limited}
 use Rattle.j_definitions.specs.declared.Fault.{Fault}
@@ -20,7 +20,7 @@ use Rattle.j_definitions.proofs.Laws.{length_le-weight}
 use Rattle.j_leaves.specs.declared.ranks.Ranks.{Ranks}
 use Rattle.j_noun.specs.declared.ranks.Rank.{Rank}
 use Rattle.j_noun.specs.declared.ranks.Rank.TheVariants as rank
-use Rattle.j_rank.specs.Assembly.{assemble, assembled, atoms_of_all, common_shape, greatest_axes, greatest_rank, greater_axes, joined_kind, kinds_with_atoms, one_kind, padded, same_kind, with_rank}
+use Rattle.j_rank.specs.Assembly.{assemble, atoms_of_all, common_shape, greatest_axes, greatest_rank, greater_axes, joined_kind, kinds_with_atoms, one_kind, padded, same_kind, with_rank}
 use Rattle.j_rank.specs.Cells.{cell, cell_of_fills}
 use Rattle.j_rank.specs.Plans.{Planned, plan_of, dyad_plan}
 use Rattle.j_rank.proofs.Assembled.{assemble_as}
@@ -28,9 +28,8 @@ use Rattle.j_rank.proofs.Joining.{same_self}
 use Rattle.j_rank.proofs.Paddings.{padded_same, part_many}
 use Rattle.j_rank.proofs.Single.{whole_cell}
 use Rattle.j_rank.proofs.Widest.{with_rank_same}
-use Rattle.j_select.specs.Indexing.{from_list, from_numbers}
-use Rattle.j_verbs.specs.Calls.{from_number}
-use Rattle.j_select.specs.Numbers.{and_then, index_in, indices_in, number_in, whole_numbers}
+use Rattle.j_select.specs.Indexing.{from_at, from_list, from_numbers}
+use Rattle.j_select.specs.Numbers.{and_then, index_in, indices_in, whole_numbers}
 use Rattle.j_select.specs.Selecting.{cells_at, items_indexed, runs_at}
 use Rattle.j_verbs.specs.ByRank.{Doing, Cells, planned_for, pair, with_left, on_pair, on_pairs, fills, fill_result, zero_atom, on_fills, source, by_source, by_plan, by_ranks}
 use Rattle.j_verbs.specs.State.{State, Outcome, then_do, else_do, pure, or_fault}
@@ -276,7 +275,7 @@ with_value z r zs e = ap (with_first z) e
 record AreValues (y : Array) (xs : List Atom) : Type 0 where
   whole : whole_numbers xs ≡ Ok (values xs)
   many : length (values xs) ≡ length xs
-  each : map (λ a. from_number a y) xs ≡ map (λ z. items_indexed [] (z ∷ []) y) (values xs)
+  each : map (λ a. from_at a y) xs ≡ map (λ z. items_indexed [] (z ∷ []) y) (values xs)
 
 value_first : (y : Array) (x : Atom) (xs : List Atom) → IsOfKind Number x → AreValues y xs → AreValues y (x ∷ xs)
 value_first y (number z) xs h v = record {
@@ -354,12 +353,12 @@ fills_noun y n =
       };
     }
 
-module _ (F : Doing) (x y : Array) (s : State) (is : (a : Atom) (b : Array) → F (Some (atom_array x.kind a)) b s ≡ or_fault (from_number a b) s) (nx : IsNoun x) (ny : IsNoun y) (kx : x.kind ≡ Number) where
+module _ (F : Doing) (x y : Array) (s : State) (is : (a : Atom) (b : Array) → F (Some (atom_array x.kind a)) b s ≡ or_fault (from_at a b) s) (nx : IsNoun x) (ny : IsNoun y) (kx : x.kind ≡ Number) where
   abbrev plan : Planned
   plan = record { left = length x.shape; right = 0; agreed = agreement x.shape }
 
   abbrev at : ℕ → Result Array Fault
-  at k = from_number (atom_at x.atoms k) y
+  at k = from_at (atom_at x.atoms k) y
 
   abbrev met : ℕ → Cells
   met k = pair plan (Some x) y k
@@ -382,7 +381,7 @@ module _ (F : Doing) (x y : Array) (s : State) (is : (a : Atom) (b : Array) → 
   numbers = values_of y x.atoms (subst (λ (j : Kind). All (IsOfKind j) x.atoms) kx nx.of_kind)
 
   all_at : map at (range_with_len 0 (product x.shape)) ≡ map (λ z. items_indexed [] (z ∷ []) y) (values x.atoms)
-  all_at = at_places (λ a. from_number a y) x.atoms 0 (product x.shape) (omega (arith, nx.as_many)) ∙ numbers.each
+  all_at = at_places (λ a. from_at a y) x.atoms 0 (product x.shape) (omega (arith, nx.as_many)) ∙ numbers.each
 
   list_is : from_list x y ≡ from_numbers x.shape (values x.atoms) y
   list_is = ap (λ (r : Result (List ℤ) Fault). and_then r (λ zs. from_numbers x.shape zs y)) numbers.whole
@@ -408,11 +407,11 @@ module _ (F : Doing) (x y : Array) (s : State) (is : (a : Atom) (b : Array) → 
       ap (λ (l : Result Array Fault). with_left l (limited filled)) (fill_cell_limited x)
       ∙ ap (λ (r : Result Array Fault). with_left (Ok (atom_array x.kind (fill_atom x.kind))) r) (limited-Ok filled (fills_noun y ny).within)
 
-  fill_is : fill_result F (source plan (Some x) y) s ≡ or_fault (from_number (number (pos 0)) filled) s
+  fill_is : fill_result F (source plan (Some x) y) s ≡ or_fault (from_at (number (pos 0)) filled) s
   fill_is =
       ap (λ (q : Result Cells Fault). then_do (or_fault q s) (on_pair F)) fills_are
       ∙ is (fill_atom x.kind) filled
-      ∙ ap (λ (k : Kind). or_fault (from_number (fill_atom k) filled) s) kx
+      ∙ ap (λ (k : Kind). or_fault (from_at (fill_atom k) filled) s) kx
 
   -- item 0 of fills says what an item is, or the number 0 where there is none
   abbrev no_items : Bool → Result Array Fault

@@ -1,6 +1,6 @@
 -- A pure verb on each pair of items, and what is left of the pairs in a loop over them.
-use Rattle.std.proofs.Common.{◌≡◌, ◌<◌, ◌≤◌, ◌+◌, ◌-◌, ℕ, List, [], ◌∷◌, ◌++◌, length, map, arith, refl, sym, ap, subst, ◌∙◌, append_assoc, append-nil, Option, Result, Ok, Err}
-use Prim.Native.Nat.{zero, suc}
+use Rattle.std.proofs.Common.{◌≡◌, ◌<◌, ◌≤◌, ◌+◌, ◌-◌, ℕ, List, [], ◌∷◌, ◌++◌, map, arith, refl, sym, ap, subst, ◌∙◌, append_assoc, append-nil, Option, Result, Ok, Err}
+use Prim.Native.Nat.{suc}
 use Rattle.std.specs.List.{range_with_len}
 use Rattle.j_definitions.specs.Array.{Array, product}
 use Rattle.j_definitions.specs.Cells.{in_order, with_first}
@@ -12,7 +12,7 @@ use Rattle.j_noun.specs.declared.refusal.Refusal.TheVariants as refusal
 use Rattle.j_rank.specs.Assembly.{assemble}
 use Rattle.j_rank.specs.Plans.{Planned}
 use Rattle.j_verbs.specs.Answered.{Gives}
-use Rattle.j_verbs.specs.ByRank.{Cells, pair, planned_for, source, by_plan, by_ranks}
+use Rattle.j_verbs.specs.ByRank.{pair, planned_for, source, by_plan, by_ranks}
 use Rattle.j_verbs.specs.PureCells.{then_pure, on_two_cells, pairs_answer, fills_answer}
 use Rattle.j_verbs.specs.State.{State, or_fault}
 use Rattle.j_verbs.proofs.Answers.{gives_as}

@@ -7,6 +7,7 @@ pub mod Scalars
 pub mod Answers
 pub mod OnCells
 pub mod Served
+pub mod WordForms
 pub mod Pure
 pub mod Corners
 pub mod ItemByItem

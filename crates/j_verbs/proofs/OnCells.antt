@@ -1,16 +1,13 @@
 -- The answers of words on one cell.
-use Rattle.std.proofs.Common.{◌≡◌, ◌≤◌, ◌<◌, refl, ap, sym, ◌∙◌, Option, Some, None, Result, Ok, Err, List, [], ◌∷◌, length, map, get_or, arith, ℕ}
-use Rattle.std.specs.List.{sum_by, All}
+use Rattle.std.proofs.Common.{◌≡◌, ◌≤◌, refl, ap, ◌∙◌, Some, None, List, [], ◌∷◌, length, arith, ℕ}
+use Rattle.std.specs.List.{sum_by}
 use Rattle.std.proofs.lemmas.List.Sums.{sum_by-cons}
 use Rattle.std.proofs.lemmas.List.Elements.{All-nil}
-use Rattle.j_definitions.specs.Array.{Array, Atom, atom_weight, greatest_level, IsWithin, IsNoun}
-use Rattle.j_definitions.specs.declared.Fault.{Fault}
+use Rattle.j_definitions.specs.Array.{Array, Atom, atom_weight, greatest_level, IsWithin}
 use Rattle.j_kernels.specs.Scalars.{monad_of, dyad_of, scalar_monad, scalar_dyad, agreed_dyad}
 use Rattle.j_kernels.specs.declared.scalar.Scalar.{Scalar}
 use Rattle.j_definitions.specs.Cells.{agree}
-use Rattle.j_noun.specs.Refused.{OrWanting}
-use Rattle.j_noun.specs.declared.refusal.Refusal.{Refusal}
-use Rattle.j_verbs.specs.Words.{atom_of, scalar_cell, one_number}
+use Rattle.j_verbs.specs.Words.{atom_of, scalar_cell}
 use Rattle.j_verbs.proofs.CellLaw.{one_is}
 
 -- the first atom of a noun alone is within the limits
@@ -39,3 +36,8 @@ pair_answer v x y a b ea ha eb hb =
     ∙ ap (λ (xs : List Atom). agreed_dyad (dyad_of v) (agree [] []) xs b.atoms) ha
     ∙ ap (λ (ys : List Atom). agreed_dyad (dyad_of v) (agree [] []) (atom_of x ∷ []) ys) hb
     ∙ one_is (dyad_of v (atom_of x) (atom_of y))
+
+-- a noun of no more than no axes has none
+pub no_axes : (s : List ℕ) → length s ≤ 0 → s ≡ []
+no_axes [] h = refl
+no_axes (n ∷ s) h = absurd (omega arith)

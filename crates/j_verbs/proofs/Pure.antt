@@ -5,11 +5,10 @@ use Rattle.j_definitions.specs.Cells.{in_order}
 use Rattle.j_definitions.specs.declared.Fault.{Fault}
 use Rattle.j_rank.specs.Assembly.{assemble}
 use Rattle.j_rank.specs.Plans.{Planned}
-use Rattle.j_leaves.specs.declared.ranks.Ranks.{Ranks}
-use Rattle.j_verbs.specs.ByRank.{Doing, Cells, Source, zero_atom, on_pair, fill_result, on_pairs, on_fills, by_pairs, by_source, by_plan, by_ranks, planned_for, source}
+use Rattle.j_verbs.specs.ByRank.{Doing, Cells, Source, zero_atom, on_pairs, on_fills, by_pairs, by_plan, by_ranks, planned_for, source}
 use Rattle.j_verbs.specs.PureCells.{then_pure, else_pure, pairs_answer, fill_answer, fills_answer}
 use Rattle.j_verbs.specs.Laws.{IsPure, PureStaysPure}
-use Rattle.j_verbs.specs.State.{State, Outcome, Run, then_do, else_do, ◌>>=◌, pure, or_fault}
+use Rattle.j_verbs.specs.State.{State, Outcome, then_do, else_do, pure, or_fault}
 use Rattle.j_verbs.proofs.CellLaw.{pure_cells}
 
 then_is : {A B : Type 0} (q : Result A Fault) (go : A → Result B Fault) (s : State) → then_do (or_fault q s) (λ a. or_fault (go a)) ≡ or_fault (then_pure q go) s

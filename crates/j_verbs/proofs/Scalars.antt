@@ -13,9 +13,7 @@ use Rattle.j_rank.proofs.Single.{assemble_one}
 use Rattle.j_verbs.specs.ByRank.{Doing, by_ranks}
 use Rattle.j_verbs.specs.Laws.{IsNounOrNone, AreZero, scalar, scalar_verb, ScalarsAreWhole, RankZeroIsItself}
 use Rattle.j_verbs.specs.State.{State, Outcome, then_do, pure, or_fault}
-use Rattle.j_verbs.specs.Words.{one_number, scalar_cell, done}
-use Rattle.j_verbs.specs.declared.table.Valence.{Valence}
-use Rattle.j_verbs.specs.declared.table.Valence.TheVariants.{Scalar}
+use Rattle.j_verbs.specs.Words.{one_number, scalar_cell}
 use Rattle.j_verbs.proofs.CellLaw.{single, IsNumberOr, dyad_of_number, monad_of_number}
 use Rattle.j_verbs.proofs.CellMonad.{monad_by_cells}
 use Rattle.j_verbs.proofs.CellDyad.{any_dyad_by_cells}

@@ -1,14 +1,9 @@
 -- Where a source has pairs, and where it has none.
-use Rattle.std.proofs.Common.{◌≡◌, ℕ, List, [], ◌∷◌, map, refl, ap, Option, Some, None, Result, Ok, Err}
+use Rattle.std.proofs.Common.{◌≡◌, ℕ, map, ap}
 use Prim.Native.Nat.{suc}
 use Rattle.std.specs.List.{range_with_len}
-use Rattle.j_definitions.specs.Array.{Array}
-use Rattle.j_definitions.specs.Cells.{in_order}
-use Rattle.j_definitions.specs.declared.Fault.{Fault}
-use Rattle.j_rank.specs.Assembly.{assemble}
-use Rattle.j_rank.specs.Plans.{Planned}
-use Rattle.j_verbs.specs.ByRank.{Doing, Cells, Source, zero_atom, over_pairs, on_pairs, on_fills, by_pairs, by_source, by_plan, by_ranks, planned_for, source}
-use Rattle.j_verbs.specs.State.{State, Outcome, then_do, else_do, pure, or_fault}
+use Rattle.j_verbs.specs.ByRank.{Doing, Cells, Source, on_pairs, on_fills, by_pairs}
+use Rattle.j_verbs.specs.State.{State}
 
 pub none_met : (f : Doing) (c : Source) (g : ℕ → Cells) (s : State) (n : ℕ) → n ≡ 0 → by_pairs (map g (range_with_len 0 n)) f c s ≡ on_fills f c s
 none_met f c g s n e = ap (λ (n : ℕ). by_pairs (map g (range_with_len 0 n)) f c s) e

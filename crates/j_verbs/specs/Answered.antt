@@ -1,5 +1,5 @@
 -- The answer of a call that neither reads nor changes the state.
-use Rattle.std.specs.Prelude.{◌≡◌, Option, Result, Ok, Err}
+use Rattle.std.specs.Prelude.{◌≡◌, Result, Ok, Err}
 use Rattle.j_definitions.specs.declared.Fault.{Fault}
 use Rattle.j_definitions.specs.Array.{Array}
 use Rattle.j_noun.specs.declared.refusal.Refusal.{Refusal}

@@ -1,5 +1,5 @@
 -- A verb applied to the cells of its arguments, by its ranks.
-use Rattle.std.specs.Prelude.{◌≡◌, ℕ, zero, suc, ◌/◌, List, [], ◌∷◌, map, Option, Some, None, Result, Ok, Err, pos}
+use Rattle.std.specs.Prelude.{◌≡◌, ℕ, ◌/◌, List, [], ◌∷◌, map, Option, Some, None, Result, Ok, Err, pos}
 use Rattle.std.specs.List.{range_with_len}
 use Rattle.j_definitions.specs.Array.{Array, number, atom_array, product}
 use Rattle.j_definitions.specs.declared.Fault.{Fault}

@@ -1,9 +1,8 @@
 -- The verbs on nouns that are words: what each of them gives of one noun, or of two.
-use Rattle.std.specs.Prelude.{ℕ, nat_le, cond, [], ◌∷◌, length, Result, Err, pos}
-use Rattle.j_definitions.specs.Array.{Array, Atom, atom_array, number, byte, nested}
-use Rattle.j_definitions.specs.Cells.{atom_at}
+use Rattle.std.specs.Prelude.{ℕ, nat_le, cond, length, Result, Err, pos}
+use Rattle.j_definitions.specs.Array.{Array, atom_array, number}
 use Rattle.j_definitions.specs.declared.Fault.{Fault}
-use Rattle.j_definitions.specs.declared.Fault.TheVariants.{Domain, Nonce, Rank}
+use Rattle.j_definitions.specs.declared.Fault.TheVariants.{Rank}
 use Rattle.j_definitions.specs.declared.Kind.TheVariants.{Number}
 use Rattle.j_places.specs.ItemPlaces as items
 use Rattle.j_places.specs.AxisPlaces as places
@@ -12,11 +11,15 @@ use Rattle.j_reshaping.specs.Axes as axes
 use Rattle.j_joining.specs.Joining as joining
 use Rattle.j_select.specs.Counting as counting
 use Rattle.j_select.specs.Selecting as selecting
+use Rattle.j_select.specs.Indexing as indexing
+use Rattle.j_select.specs.Catalogue as catalogue
 use Rattle.j_search.specs.Matching as matching
 use Rattle.j_search.specs.Order as order
 use Rattle.j_search.specs.declared.order.Direction.TheVariants.{Up, Down}
 use Rattle.j_insert.specs.Bases as bases
 use Rattle.j_insert.specs.Digits as digits
+use Rattle.j_display.specs.Formatted as display
+use Rattle.j_verbs.specs.WordForms as forms
 use Rattle.j_verbs.specs.declared.calls.Monad.{Monad}
 use Rattle.j_verbs.specs.declared.calls.Monad.TheVariants as monad
 use Rattle.j_verbs.specs.declared.calls.Dyad.{Dyad}
@@ -24,12 +27,6 @@ use Rattle.j_verbs.specs.declared.calls.Dyad.TheVariants as dyad
 
 abbrev pub two : Array
 two = atom_array Number (number (pos 2))
-
--- the item at an index; a box as an index comes with the words that make boxes
-abbrev pub from_number : Atom → Array → Result Array Fault
-from_number (number z) y = selecting.items_indexed [] (z ∷ []) y
-from_number (byte b) y = Err Domain
-from_number (nested k s r) y = Err Nonce
 
 -- a cell of at most n axes, as its verb's rank makes it; one of more would be `rank error`
 abbrev pub up_to : ℕ → Array → Result Array Fault → Result Array Fault
@@ -57,6 +54,12 @@ of_one monad.GradeUp y = order.grade Up y
 of_one monad.GradeDown y = order.grade Down y
 of_one monad.BaseTwo y = bases.base two y
 of_one monad.AntibaseTwo y = digits.antibase_two y
+of_one monad.Boxed y = joining.in_box y
+of_one monad.Opened y = up_to 0 y (joining.content y)
+of_one monad.Raze y = joining.raze y
+of_one monad.Catalogue y = catalogue.catalogue y
+of_one monad.WordForms y = forms.word_forms y
+of_one monad.Format y = display.formatted y
 
 abbrev pub of_two : Dyad → Array → Array → Result Array Fault
 of_two dyad.Reshape x y = up_to 1 x (reshaping.reshape x y)
@@ -67,7 +70,7 @@ of_two dyad.TransposeBy x y = up_to 1 x (axes.transpose_by x y)
 of_two dyad.Take x y = up_to 1 x (places.take_axes x y)
 of_two dyad.DropItems x y = up_to 1 x (places.drop_axes x y)
 of_two dyad.Copy x y = up_to 1 x (selecting.copy x y)
-of_two dyad.From x y = from_number (atom_at x.atoms 0) y
+of_two dyad.From x y = up_to 0 x (indexing.from x y)
 of_two dyad.IndexOf x y = matching.index_of x y
 of_two dyad.LastIndexOf x y = matching.last_index_of x y
 of_two dyad.Member x y = matching.member x y
@@ -77,3 +80,4 @@ of_two dyad.SortUp x y = order.sort Up x y
 of_two dyad.SortDown x y = order.sort Down x y
 of_two dyad.Base x y = bases.base x y
 of_two dyad.Antibase x y = digits.antibase x y
+of_two dyad.Link x y = joining.link x y

@@ -1,5 +1,5 @@
 -- What is done on cells where it neither reads nor changes the state: the answer alone.
-use Rattle.std.specs.Prelude.{List, [], ◌∷◌, map, Option, Result, Ok, Err}
+use Rattle.std.specs.Prelude.{[], ◌∷◌, map, Option, Result, Ok, Err}
 use Rattle.j_definitions.specs.Array.{Array}
 use Rattle.j_definitions.specs.Cells.{in_order}
 use Rattle.j_definitions.specs.declared.Fault.{Fault}

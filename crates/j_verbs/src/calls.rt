@@ -1,16 +1,19 @@
 // Verbs on nouns that are words.
 ghost use Rattle.j_noun.specs.Refused.{OrWanting};
-ghost use Rattle.j_definitions.specs.Cells.{atom_at};
 ghost use Rattle.std.specs.Prelude.{◌≡◌, ◌<◌, ◌≤◌, length, IfErr, IfOk};
+ghost use Rattle.j_joining.specs.Joining as joining;
 ghost use Rattle.j_places.specs.AxisPlaces as places;
 ghost use Rattle.j_reshaping.specs.Axes as axes;
 ghost use Rattle.j_reshaping.specs.Reshaping as reshaping;
 ghost use Rattle.j_select.specs.Counting as counting;
+ghost use Rattle.j_select.specs.Indexing as indexing;
 ghost use Rattle.j_select.specs.Selecting as selecting;
-ghost use Rattle.j_verbs.specs.Calls.{from_number, of_one, of_two, up_to};
+ghost use Rattle.j_verbs.specs.Calls.{of_one, of_two, up_to};
 
+use crate::word_forms::word_forms;
+use j_display as display;
 use j_insert as insertion;
-use j_noun::{Fault, Noun, Pool, Refusal, View};
+use j_noun::{Fault, Noun, Pool, Refusal};
 use j_search as search;
 use j_select as selection;
 use j_struct_verbs as structure;
@@ -39,6 +42,12 @@ pub enum Monad {
     GradeDown,
     BaseTwo,
     AntibaseTwo,
+    Boxed,
+    Opened,
+    Raze,
+    Catalogue,
+    WordForms,
+    Format,
 }
 
 /// A verb on two nouns.
@@ -62,6 +71,7 @@ pub enum Dyad {
     SortDown,
     Base,
     Antibase,
+    Link,
 }
 
 // Whether a cell has at most so many axes, as its verb's rank makes it.
@@ -96,6 +106,13 @@ fn indices_of_ones(pool: &mut Pool, y: &Noun) -> Result<Noun, Refusal>
 {
     up_to(1, y)?;
     selection::indices_of_ones(pool, y)
+}
+
+fn opened(pool: &mut Pool, y: &Noun) -> Result<Noun, Refusal>
+    ensures { OrWanting (up_to 0 y.now (joining.content y.now)) result }
+{
+    up_to(0, y)?;
+    structure::opened(pool, y)
 }
 
 fn copy(pool: &mut Pool, x: &Noun, y: &Noun) -> Result<Noun, Refusal>
@@ -140,18 +157,12 @@ fn transpose_by(pool: &mut Pool, x: &Noun, y: &Noun) -> Result<Noun, Refusal>
     structure::transpose_by(pool, x, y)
 }
 
-// The item at the index that the first atom is, which a cell of rank 0 is; where there is none, at 0.
-fn from_number(pool: &mut Pool, x: &Noun, y: &Noun) -> Result<Noun, Refusal>
-    ensures { OrWanting (from_number (atom_at x.now.atoms 0) y.now) result }
+#[tactic(auto, using(crate::proofs::OnCells::no_axes))]
+fn from(pool: &mut Pool, x: &Noun, y: &Noun) -> Result<Noun, Refusal>
+    ensures { OrWanting (up_to 0 x.now (indexing.from x.now y.now)) result }
 {
-    let index = match x.view() {
-        View::Wholes([z, ..]) => *z,
-        View::Bits([b, ..]) => i64::from(*b),
-        View::Bytes([_, ..]) => return Err(Refusal::Fault(Fault::Domain)),
-        View::Boxes([_, ..]) => return Err(Refusal::Fault(Fault::Nonce)),
-        View::Wholes([]) | View::Bits([]) | View::Bytes([]) | View::Boxes([]) => 0,
-    };
-    selection::from_list(pool, &Noun::number(index), y)
+    up_to(0, x)?;
+    selection::from(pool, x, y)
 }
 
 /// What a verb gives of one noun.
@@ -180,6 +191,12 @@ pub fn of_one(pool: &mut Pool, m: Monad, y: &Noun) -> Result<Noun, Refusal>
         Monad::GradeDown => search::grade_down(pool, y),
         Monad::BaseTwo => insertion::base(pool, &Noun::number(2), y),
         Monad::AntibaseTwo => insertion::antibase_two(pool, y),
+        Monad::Boxed => structure::boxed(pool, y),
+        Monad::Opened => opened(pool, y),
+        Monad::Raze => structure::raze(pool, y),
+        Monad::Catalogue => selection::catalogue(pool, y),
+        Monad::WordForms => word_forms(pool, y),
+        Monad::Format => display::format(pool, y),
     }
 }
 
@@ -196,7 +213,7 @@ pub fn of_two(pool: &mut Pool, d: Dyad, x: &Noun, y: &Noun) -> Result<Noun, Refu
         Dyad::Take => take(pool, x, y),
         Dyad::DropItems => drop_items(pool, x, y),
         Dyad::Copy => copy(pool, x, y),
-        Dyad::From => from_number(pool, x, y),
+        Dyad::From => from(pool, x, y),
         Dyad::IndexOf => search::index_of(pool, x, y),
         Dyad::LastIndexOf => search::last_index_of(pool, x, y),
         Dyad::Member => search::member(pool, x, y),
@@ -206,5 +223,6 @@ pub fn of_two(pool: &mut Pool, d: Dyad, x: &Noun, y: &Noun) -> Result<Noun, Refu
         Dyad::SortDown => search::sort_down(pool, x, y),
         Dyad::Base => insertion::base(pool, x, y),
         Dyad::Antibase => insertion::antibase(pool, x, y),
+        Dyad::Link => structure::link(pool, x, y),
     }
 }
