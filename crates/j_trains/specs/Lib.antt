@@ -1,3 +1,4 @@
+pub mod Obverses
 pub mod Modifiers
 pub mod Form
 pub mod Rows

@@ -1,6 +1,6 @@
 -- Which operands a modifier takes: the fault that they are, or none.
-use Rattle.std.specs.Prelude.{ℕ, pos, int_lt, nat_le, Bool, true, false, not, ◌&&◌, List, [], ◌∷◌, length, Option, Some, None}
-use Rattle.j_definitions.specs.Array.{Array, Atom, number}
+use Rattle.std.specs.Prelude.{ℕ, zero, suc, ℤ, pos, negsuc, int_lt, nat_le, Bool, true, false, not, ◌&&◌, List, [], ◌∷◌, length, Option, Some, None}
+use Rattle.j_definitions.specs.Array.{Array, Atom, number, byte, nested}
 use Rattle.j_definitions.specs.declared.Kind.{Kind}
 use Rattle.j_definitions.specs.declared.Kind.TheVariants.{Number}
 use Rattle.j_definitions.specs.declared.Fault.{Fault}
@@ -9,7 +9,8 @@ use Rattle.j_noun.specs.declared.ranks.RankPart.{RankPart}
 use Rattle.j_noun.specs.declared.ranks.RankPart.TheVariants.{Infinite}
 use Rattle.j_leaves.specs.declared.modifier.Modifier.{Modifier}
 use Rattle.j_leaves.specs.declared.modifier.Modifier.TheVariants as m
-use Rattle.j_entity.specs.Tree.{OperandTree, verb, noun, rank_list}
+use Rattle.j_entity.specs.Tree.{VerbTree, OperandTree, verb, noun, rank_list}
+use Rattle.j_trains.specs.Obverses.{obverse}
 
 -- this fault unless the test holds, and else the next one
 abbrev pub unless : Bool → Fault → Option Fault → Option Fault
@@ -79,11 +80,62 @@ power_fault (verb u) (rank_list l) = endless_fault l
 power_fault (verb u) (verb v) = None
 power_fault u v = Some fault.Domain
 
--- `u~` and `u/`
+-- `u~`, `u/`, `u\`, `u\.` and `u/.`
 abbrev pub verb_fault : OperandTree → Option Fault
 verb_fault (verb u) = None
 verb_fault (noun m) = Some fault.Nonce
 verb_fault (rank_list l) = Some fault.Domain
+
+-- `m}`, and `u}` of a verb, which isn't formed yet
+abbrev pub amend_fault : OperandTree → Option Fault
+amend_fault (noun m) = None
+amend_fault (verb u) = Some fault.Nonce
+amend_fault (rank_list l) = Some fault.Domain
+
+-- two verbs, of which the right one has an obverse
+abbrev pub obverse_fault : Option VerbTree → Option Fault
+obverse_fault (Some v) = None
+obverse_fault None = Some fault.Domain
+
+-- `u&.v`
+abbrev pub under_fault : OperandTree → OperandTree → Option Fault
+under_fault (verb u) (verb v) = obverse_fault (obverse v)
+under_fault (verb u) (noun n) = Some fault.Domain
+under_fault (verb u) (rank_list l) = Some fault.Domain
+under_fault (noun m) v = Some fault.Domain
+under_fault (rank_list l) v = Some fault.Domain
+
+-- which cut a number says: 1 _1 2 _2; 0, 3 and _3 aren't there yet
+abbrev pub cut_number_fault : ℤ → Option Fault
+cut_number_fault (pos zero) = Some fault.Nonce
+cut_number_fault (pos (suc zero)) = None
+cut_number_fault (pos (suc (suc zero))) = None
+cut_number_fault (pos (suc (suc (suc zero)))) = Some fault.Nonce
+cut_number_fault (pos (suc (suc (suc (suc n))))) = Some fault.Domain
+cut_number_fault (negsuc zero) = None
+cut_number_fault (negsuc (suc zero)) = None
+cut_number_fault (negsuc (suc (suc zero))) = Some fault.Nonce
+cut_number_fault (negsuc (suc (suc (suc n)))) = Some fault.Domain
+
+abbrev pub cut_atom_fault : List Atom → Option Fault
+cut_atom_fault [] = Some fault.Domain
+cut_atom_fault (number z ∷ atoms) = cut_number_fault z
+cut_atom_fault (byte b ∷ atoms) = Some fault.Domain
+cut_atom_fault (nested k s r ∷ atoms) = Some fault.Domain
+
+-- the n of `u;.n`: an atom, a number
+abbrev pub cut_noun_fault : Array → Option Fault
+cut_noun_fault n = unless (is_atom n.shape) fault.Domain (cut_atom_fault n.atoms)
+
+-- `u;.n`, and `m;.n`, which isn't formed yet
+abbrev pub cut_fault : OperandTree → OperandTree → Option Fault
+cut_fault (verb u) (noun n) = cut_noun_fault n
+cut_fault (verb u) (verb v) = Some fault.Domain
+cut_fault (verb u) (rank_list l) = Some fault.Domain
+cut_fault (noun m) (noun n) = Some fault.Nonce
+cut_fault (noun m) (verb v) = Some fault.Domain
+cut_fault (noun m) (rank_list l) = Some fault.Domain
+cut_fault (rank_list l) v = Some fault.Domain
 
 -- A word left and right of which operands stand. Some conjunctions aren't formed yet, and an adverb is none.
 abbrev pub conjunction_fault : Modifier → OperandTree → OperandTree → Option Fault
@@ -93,8 +145,8 @@ conjunction_fault m.At u v = verbs_fault u v
 conjunction_fault m.Bond u v = bond_fault u v
 conjunction_fault m.Appose u v = verbs_fault u v
 conjunction_fault m.PowerOf u v = power_fault u v
-conjunction_fault m.Cut u v = Some fault.Nonce
-conjunction_fault m.Under u v = Some fault.Nonce
+conjunction_fault m.Cut u v = cut_fault u v
+conjunction_fault m.Under u v = under_fault u v
 conjunction_fault m.Product u v = verbs_fault u v
 conjunction_fault m.Adverse u v = Some fault.Nonce
 conjunction_fault m.Monadic u v = Some fault.Nonce
@@ -105,14 +157,14 @@ conjunction_fault m.Oblique u v = Some fault.Nonce
 conjunction_fault m.Passive u v = Some fault.Nonce
 conjunction_fault m.Amend u v = Some fault.Nonce
 
--- A word right of an operand. Some adverbs aren't formed yet, and a conjunction is none.
+-- A word right of an operand. A conjunction is no adverb.
 abbrev pub adverb_fault : Modifier → OperandTree → Option Fault
 adverb_fault m.Passive u = verb_fault u
 adverb_fault m.Insert u = verb_fault u
-adverb_fault m.Prefix u = Some fault.Nonce
-adverb_fault m.Suffix u = Some fault.Nonce
-adverb_fault m.Oblique u = Some fault.Nonce
-adverb_fault m.Amend u = Some fault.Nonce
+adverb_fault m.Prefix u = verb_fault u
+adverb_fault m.Suffix u = verb_fault u
+adverb_fault m.Oblique u = verb_fault u
+adverb_fault m.Amend u = amend_fault u
 adverb_fault m.Rank u = Some fault.Nonce
 adverb_fault m.Atop u = Some fault.Nonce
 adverb_fault m.At u = Some fault.Nonce

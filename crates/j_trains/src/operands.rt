@@ -1,9 +1,11 @@
 // Which operands a modifier takes: the fault that they are, or none.
-ghost use Rattle.std.specs.Prelude.{◌≡◌, length};
+ghost use Rattle.std.specs.Prelude.{◌≡◌, length, map, pos};
+ghost use Rattle.j_definitions.specs.Array.{number};
 ghost use Rattle.j_noun.specs.Viewed.{viewed, kind_viewed};
 ghost use Rattle.j_entity.specs.View.{operand_of};
 ghost use Rattle.j_trains.specs.Modifiers as spec;
 
+use crate::obverses::obverse;
 use j_entity::Operand;
 use j_leaves::Modifier;
 use j_noun::{Fault, Noun, RankList, RankPart, View};
@@ -138,7 +140,7 @@ fn power_fault(u: &Operand, v: &Operand) -> Option<Fault>
     }
 }
 
-// `u~` and `u/`.
+// `u~`, `u/`, `u\`, `u\.` and `u/.`.
 fn verb_fault(u: &Operand) -> Option<Fault>
     ensures { result ≡ spec.verb_fault (operand_of u.now) }
 {
@@ -146,6 +148,95 @@ fn verb_fault(u: &Operand) -> Option<Fault>
         Operand::Verb(_) => None,
         Operand::Noun(_) => Some(Fault::Nonce),
         Operand::Ranks(_) => Some(Fault::Domain),
+    }
+}
+
+// `m}`, and `u}` of a verb, which isn't formed yet.
+fn amend_fault(u: &Operand) -> Option<Fault>
+    ensures { result ≡ spec.amend_fault (operand_of u.now) }
+{
+    match u {
+        Operand::Noun(_) => None,
+        Operand::Verb(_) => Some(Fault::Nonce),
+        Operand::Ranks(_) => Some(Fault::Domain),
+    }
+}
+
+// `u&.v`.
+fn under_fault(u: &Operand, v: &Operand) -> Option<Fault>
+    ensures { result ≡ spec.under_fault (operand_of u.now) (operand_of v.now) }
+{
+    match (u, v) {
+        (Operand::Verb(_), Operand::Verb(v)) => match obverse(v) {
+            Some(_) => None,
+            None => Some(Fault::Domain),
+        },
+        _ => Some(Fault::Domain),
+    }
+}
+
+// Which cut a number says.
+fn cut_number_fault(n: i64) -> Option<Fault>
+    ensures { result ≡ spec.cut_number_fault n }
+{
+    match n {
+        1 | -1 | 2 | -2 => None,
+        0 | 3 | -3 => Some(Fault::Nonce),
+        _ => Some(Fault::Domain),
+    }
+}
+
+// Which cut the first number says.
+fn first_cut_fault(numbers: &[i64]) -> Option<Fault>
+    ensures { result ≡ spec.cut_atom_fault (map (λ n. number n) numbers.now) }
+{
+    match numbers {
+        [n, ..] => cut_number_fault(*n),
+        [] => Some(Fault::Domain),
+    }
+}
+
+// Which cut the first bit says.
+fn first_bit_fault(bits: &[u8]) -> Option<Fault>
+    ensures { result ≡ spec.cut_atom_fault (map (λ b. number (pos b)) bits.now) }
+{
+    match bits {
+        [b, ..] => cut_number_fault(i64::from(*b)),
+        [] => Some(Fault::Domain),
+    }
+}
+
+// Which cut the first atom says.
+#[tactic(auto, using(crate::proofs::Signs::no_byte_cut, crate::proofs::Signs::no_box_cut))]
+fn cut_atom_fault(atoms: View<'_>) -> Option<Fault>
+    ensures { result ≡ spec.cut_atom_fault (viewed atoms.entry) }
+{
+    match atoms {
+        View::Wholes(numbers) => first_cut_fault(numbers),
+        View::Bits(bits) => first_bit_fault(bits),
+        View::Bytes(_) | View::Boxes(_) => Some(Fault::Domain),
+    }
+}
+
+// The n of `u;.n`.
+fn cut_noun_fault(n: &Noun) -> Option<Fault>
+    ensures { result ≡ spec.cut_noun_fault n.now }
+{
+    if n.axes().is_empty() {
+        cut_atom_fault(n.view())
+    } else {
+        Some(Fault::Domain)
+    }
+}
+
+// `u;.n`, and `m;.n`, which isn't formed yet.
+fn cut_fault(u: &Operand, v: &Operand) -> Option<Fault>
+    ensures { result ≡ spec.cut_fault (operand_of u.now) (operand_of v.now) }
+{
+    match (u, v) {
+        (Operand::Verb(_), Operand::Noun(n)) => cut_noun_fault(n),
+        (Operand::Noun(_), Operand::Noun(_)) => Some(Fault::Nonce),
+        _ => Some(Fault::Domain),
     }
 }
 
@@ -158,9 +249,9 @@ pub fn conjunction_fault(m: Modifier, u: &Operand, v: &Operand) -> Option<Fault>
         Modifier::Atop | Modifier::At | Modifier::Appose | Modifier::Product => verbs_fault(u, v),
         Modifier::Bond => bond_fault(u, v),
         Modifier::PowerOf => power_fault(u, v),
-        Modifier::Cut
-        | Modifier::Under
-        | Modifier::Adverse
+        Modifier::Cut => cut_fault(u, v),
+        Modifier::Under => under_fault(u, v),
+        Modifier::Adverse
         | Modifier::Monadic
         | Modifier::Insert
         | Modifier::Prefix
@@ -176,12 +267,13 @@ pub fn adverb_fault(m: Modifier, u: &Operand) -> Option<Fault>
     ensures { result ≡ spec.adverb_fault m (operand_of u.now) }
 {
     match m {
-        Modifier::Passive | Modifier::Insert => verb_fault(u),
-        Modifier::Prefix
+        Modifier::Passive
+        | Modifier::Insert
+        | Modifier::Prefix
         | Modifier::Suffix
-        | Modifier::Oblique
-        | Modifier::Amend
-        | Modifier::Rank
+        | Modifier::Oblique => verb_fault(u),
+        Modifier::Amend => amend_fault(u),
+        Modifier::Rank
         | Modifier::Atop
         | Modifier::At
         | Modifier::Bond

@@ -1,14 +1,18 @@
 // Trains worked out by hand, and laws of their definitions.
-ghost use Rattle.std.specs.Prelude.{◌≡◌, ◌≤◌, IfOk, IsErr, Ok, Err, ◌∷◌, [], pos, negsuc};
+ghost use Rattle.std.specs.Prelude.{◌≡◌, ◌≤◌, IfOk, IsErr, Ok, Err, Some, None, ◌∷◌, [], map, pos, negsuc};
 ghost use Rattle.j_definitions.specs.Array.{Array, byte, boxed};
 ghost use Rattle.j_definitions.specs.declared.Kind.TheVariants as kind;
 ghost use Rattle.j_definitions.specs.declared.Fault.TheVariants as fault;
+ghost use Rattle.j_leaves.specs.Names.{NameParts};
+ghost use Rattle.j_leaves.specs.declared.ranks.Ranks.{Ranks};
+ghost use Rattle.j_leaves.specs.declared.primitive.Primitive.TheVariants as p;
 ghost use Rattle.j_leaves.specs.declared.modifier.Modifier.{Modifier};
 ghost use Rattle.j_leaves.specs.declared.modifier.Modifier.TheVariants as m;
 ghost use Rattle.j_noun.specs.declared.ranks.RankPart.TheVariants as part;
-ghost use Rattle.j_entity.specs.Tree.{VerbTree, OperandTree, OperatorTree, EntityTree, fork, noun_fork, hook, derived, derived2, verb, noun, rank_list, modifier, both, right, left, a_noun, a_verb, an_adverb, a_conjunction};
+ghost use Rattle.j_entity.specs.Tree.{VerbTree, OperandTree, OperatorTree, EntityTree, primitive, named, fork, noun_fork, hook, derived, derived2, verb, noun, rank_list, modifier, both, right, left, a_noun, a_verb, an_adverb, a_conjunction};
 ghost use Rattle.j_entity.specs.Heights.{verb_height};
 ghost use Rattle.j_trains.specs.Form.{fork_of, bident_of, conjunction_of, adverb_of};
+ghost use Rattle.j_trains.specs.Obverses.{obverse};
 ghost use Rattle.j_trains.specs.Rows.{plus, minus, times, five, on_five, atom, shaped, numbers, nothing, letter, letter_shaped, box, alone, joined, at_word, insert_word, tower, adverb_tower, entity_height};
 ghost use Rattle.j_trains.specs.Tables.{row, said_alone, said_between, formed, domain, rank, length, nonce};
 
@@ -111,7 +115,7 @@ pub fn power_rows()
     ensures too_high { conjunction_of (modifier m.PowerOf) (verb (tower 64)) (atom (pos 2)) ≡ Err fault.Limit }
 {}
 
-/// Laws: what adverbs are applied to, and words that form nothing yet, worked out by hand.
+/// Laws: what adverbs are applied to, and conjunctions that form nothing yet, worked out by hand.
 pub fn adverb_rows()
     ensures passive { adverb_of (modifier m.Passive) (verb minus) ≡ alone m.Passive (verb minus) }
     ensures passive_twice { adverb_of (both (modifier m.Passive) (modifier m.Passive)) (verb minus) ≡ alone m.Passive (verb (derived m.Passive (verb minus))) }
@@ -120,19 +124,69 @@ pub fn adverb_rows()
     ensures passive_too_high { adverb_of (modifier m.Passive) (verb (tower 64)) ≡ Err fault.Limit }
     ensures insert { adverb_of (modifier m.Insert) (verb plus) ≡ alone m.Insert (verb plus) }
     ensures noun_insert { adverb_of (modifier m.Insert) on_five ≡ Err fault.Nonce }
-    ensures prefix { adverb_of (modifier m.Prefix) (verb plus) ≡ Err fault.Nonce }
+    ensures prefix { adverb_of (modifier m.Prefix) (verb plus) ≡ alone m.Prefix (verb plus) }
     ensures noun_prefix { adverb_of (modifier m.Prefix) on_five ≡ Err fault.Nonce }
-    ensures suffix { adverb_of (modifier m.Suffix) (verb plus) ≡ Err fault.Nonce }
+    ensures suffix { adverb_of (modifier m.Suffix) (verb plus) ≡ alone m.Suffix (verb plus) }
     ensures noun_suffix { adverb_of (modifier m.Suffix) on_five ≡ Err fault.Nonce }
-    ensures oblique { adverb_of (modifier m.Oblique) (verb plus) ≡ Err fault.Nonce }
+    ensures oblique { adverb_of (modifier m.Oblique) (verb plus) ≡ alone m.Oblique (verb plus) }
     ensures noun_oblique { adverb_of (modifier m.Oblique) on_five ≡ Err fault.Nonce }
-    ensures amend { adverb_of (modifier m.Amend) (verb plus) ≡ Err fault.Nonce }
-    ensures cut { conjunction_of (modifier m.Cut) (verb plus) (verb minus) ≡ Err fault.Nonce }
-    ensures under { conjunction_of (modifier m.Under) (verb plus) (verb minus) ≡ Err fault.Nonce }
+    ensures amend { adverb_of (modifier m.Amend) on_five ≡ alone m.Amend on_five }
+    ensures amend_of_verb { adverb_of (modifier m.Amend) (verb plus) ≡ Err fault.Nonce }
+    ensures amend_of_ranks { adverb_of (modifier m.Amend) (rank_list (part.Infinite ∷ [])) ≡ Err fault.Domain }
     ensures product { conjunction_of (modifier m.Product) (verb plus) (verb minus) ≡ joined m.Product (verb plus) (verb minus) }
     ensures product_of_noun { conjunction_of (modifier m.Product) on_five (verb minus) ≡ Err fault.Domain }
     ensures adverse { conjunction_of (modifier m.Adverse) (verb plus) (verb minus) ≡ Err fault.Nonce }
     ensures monadic { conjunction_of (modifier m.Monadic) (verb plus) (verb minus) ≡ Err fault.Nonce }
+{}
+
+/// Laws: operands of `&.`, and which words have an obverse, worked out by hand.
+pub fn under_rows()
+    ensures box_and_open { obverse (primitive p.Less) ≡ Some (primitive p.Greater) }
+    ensures open_and_box { obverse (primitive p.Greater) ≡ Some (primitive p.Less) }
+    ensures one_more { obverse (primitive p.GreaterEqual) ≡ Some (primitive p.LessEqual) }
+    ensures one_less { obverse (primitive p.LessEqual) ≡ Some (primitive p.GreaterEqual) }
+    ensures double { obverse (primitive p.Double) ≡ Some (primitive p.Halve) }
+    ensures halve { obverse (primitive p.Halve) ≡ Some (primitive p.Double) }
+    ensures of_themselves { map (λ v. obverse (primitive v)) (p.Plus ∷ p.Minus ∷ p.Not ∷ p.Divide ∷ p.Reverse ∷ p.Transpose ∷ p.Left ∷ p.Right ∷ [])
+        ≡ map (λ v. Some (primitive v)) (p.Plus ∷ p.Minus ∷ p.Not ∷ p.Divide ∷ p.Reverse ∷ p.Transpose ∷ p.Left ∷ p.Right ∷ []) }
+    ensures none { map (λ v. obverse (primitive v)) (p.Times ∷ p.Power ∷ p.Square ∷ p.Residue ∷ p.Equal ∷ p.Link ∷ p.Cap ∷ p.One ∷ [])
+        ≡ row None None None None None None None None }
+    ensures name { (n : NameParts) (r : Ranks) → obverse (named n r) ≡ None }
+    ensures train { obverse (hook plus plus) ≡ None }
+    ensures modified { obverse (derived m.Passive (verb plus)) ≡ None }
+    ensures of_verbs { conjunction_of (modifier m.Under) (verb times) (verb plus) ≡ joined m.Under (verb times) (verb plus) }
+    ensures no_obverse { conjunction_of (modifier m.Under) (verb plus) (verb times) ≡ Err fault.Domain }
+    ensures name_of_verb { (n : NameParts) (r : Ranks) → conjunction_of (modifier m.Under) (verb plus) (verb (named n r)) ≡ Err fault.Domain }
+    ensures noun_left { conjunction_of (modifier m.Under) on_five (verb plus) ≡ Err fault.Domain }
+    ensures noun_right { conjunction_of (modifier m.Under) (verb plus) on_five ≡ Err fault.Domain }
+    ensures too_high { conjunction_of (modifier m.Under) (verb (tower 64)) (verb plus) ≡ Err fault.Limit }
+    ensures fault_before_height { conjunction_of (modifier m.Under) (verb (tower 64)) (verb times) ≡ Err fault.Domain }
+    ensures applied { adverb_of (right (modifier m.Under) (verb minus)) (verb plus) ≡ joined m.Under (verb plus) (verb minus) }
+{}
+
+/// Laws: operands of `;.`, worked out by hand.
+pub fn cut_rows()
+    ensures one { conjunction_of (modifier m.Cut) (verb plus) (atom (pos 1)) ≡ joined m.Cut (verb plus) (atom (pos 1)) }
+    ensures minus_one { conjunction_of (modifier m.Cut) (verb plus) (atom (negsuc 0)) ≡ joined m.Cut (verb plus) (atom (negsuc 0)) }
+    ensures two { conjunction_of (modifier m.Cut) (verb plus) (atom (pos 2)) ≡ joined m.Cut (verb plus) (atom (pos 2)) }
+    ensures minus_two { conjunction_of (modifier m.Cut) (verb plus) (atom (negsuc 1)) ≡ joined m.Cut (verb plus) (atom (negsuc 1)) }
+    ensures zero { conjunction_of (modifier m.Cut) (verb plus) (atom (pos 0)) ≡ Err fault.Nonce }
+    ensures three { conjunction_of (modifier m.Cut) (verb plus) (atom (pos 3)) ≡ Err fault.Nonce }
+    ensures minus_three { conjunction_of (modifier m.Cut) (verb plus) (atom (negsuc 2)) ≡ Err fault.Nonce }
+    ensures four { conjunction_of (modifier m.Cut) (verb plus) (atom (pos 4)) ≡ Err fault.Domain }
+    ensures minus_four { conjunction_of (modifier m.Cut) (verb plus) (atom (negsuc 3)) ≡ Err fault.Domain }
+    ensures list_of_one { conjunction_of (modifier m.Cut) (verb plus) (numbers (pos 1 ∷ [])) ≡ Err fault.Domain }
+    ensures list_of_zero { conjunction_of (modifier m.Cut) (verb plus) (numbers (pos 0 ∷ [])) ≡ Err fault.Domain }
+    ensures no_numbers { conjunction_of (modifier m.Cut) (verb plus) (numbers []) ≡ Err fault.Domain }
+    ensures character { conjunction_of (modifier m.Cut) (verb plus) letter ≡ Err fault.Domain }
+    ensures boxes { conjunction_of (modifier m.Cut) (verb plus) box ≡ Err fault.Domain }
+    ensures of_a_verb { conjunction_of (modifier m.Cut) (verb plus) (verb minus) ≡ Err fault.Domain }
+    ensures noun_left { conjunction_of (modifier m.Cut) on_five (atom (pos 1)) ≡ Err fault.Nonce }
+    ensures noun_left_of_four { conjunction_of (modifier m.Cut) on_five (atom (pos 4)) ≡ Err fault.Nonce }
+    ensures noun_left_of_verb { conjunction_of (modifier m.Cut) on_five (verb plus) ≡ Err fault.Domain }
+    ensures too_high { conjunction_of (modifier m.Cut) (verb (tower 64)) (atom (pos 1)) ≡ Err fault.Limit }
+    ensures fault_before_height { conjunction_of (modifier m.Cut) (verb (tower 64)) (atom (pos 0)) ≡ Err fault.Nonce }
+    ensures applied { adverb_of (right (modifier m.Cut) (atom (pos 1))) (verb plus) ≡ joined m.Cut (verb plus) (atom (pos 1)) }
 {}
 
 /// Laws: each modifier with a verb, a number, a character, a box, a list of no numbers, of no characters and of no boxes, and `_` as its operands: a row for each left one, and a column for each right one.
@@ -193,6 +247,28 @@ pub fn operand_tables()
         (row domain domain domain domain domain domain domain domain) }
     ensures passive { said_alone m.Passive ≡ row formed nonce nonce nonce nonce nonce nonce domain }
     ensures insert { said_alone m.Insert ≡ row formed nonce nonce nonce nonce nonce nonce domain }
+    ensures prefix { said_alone m.Prefix ≡ row formed nonce nonce nonce nonce nonce nonce domain }
+    ensures suffix { said_alone m.Suffix ≡ row formed nonce nonce nonce nonce nonce nonce domain }
+    ensures oblique { said_alone m.Oblique ≡ row formed nonce nonce nonce nonce nonce nonce domain }
+    ensures amend { said_alone m.Amend ≡ row nonce formed formed formed formed formed formed domain }
+    ensures cut { said_between m.Cut ≡ row
+        (row domain domain domain domain domain domain domain domain)
+        (row domain nonce nonce nonce nonce nonce nonce domain)
+        (row domain nonce nonce nonce nonce nonce nonce domain)
+        (row domain nonce nonce nonce nonce nonce nonce domain)
+        (row domain nonce nonce nonce nonce nonce nonce domain)
+        (row domain nonce nonce nonce nonce nonce nonce domain)
+        (row domain nonce nonce nonce nonce nonce nonce domain)
+        (row domain domain domain domain domain domain domain domain) }
+    ensures under { said_between m.Under ≡ row
+        (row formed domain domain domain domain domain domain domain)
+        (row domain domain domain domain domain domain domain domain)
+        (row domain domain domain domain domain domain domain domain)
+        (row domain domain domain domain domain domain domain domain)
+        (row domain domain domain domain domain domain domain domain)
+        (row domain domain domain domain domain domain domain domain)
+        (row domain domain domain domain domain domain domain domain)
+        (row domain domain domain domain domain domain domain domain) }
 {}
 
 /// Laws: which fault of the right operand of `"` or `^:` comes first, and lists with an infinite part, worked out by hand.

@@ -43,11 +43,11 @@ returns-clause-noun_oblique c = refl
 pub returns-clause-amend : goal.returns-clause-amend
 returns-clause-amend c = refl
 
-pub returns-clause-cut : goal.returns-clause-cut
-returns-clause-cut c = refl
+pub returns-clause-amend_of_verb : goal.returns-clause-amend_of_verb
+returns-clause-amend_of_verb c = refl
 
-pub returns-clause-under : goal.returns-clause-under
-returns-clause-under c = refl
+pub returns-clause-amend_of_ranks : goal.returns-clause-amend_of_ranks
+returns-clause-amend_of_ranks c = refl
 
 pub returns-clause-product : goal.returns-clause-product
 returns-clause-product c = refl
