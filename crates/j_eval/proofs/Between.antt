@@ -1,5 +1,5 @@
 -- A verb between items, and what is left of it after one item.
-use Rattle.std.proofs.Common.{◌≡◌, List, [], ◌∷◌, drop, Option, Some, None, Result, Err, refl, sym, ap, subst, ◌∙◌}
+use Rattle.std.proofs.Common.{◌≡◌, List, [], ◌∷◌, drop, Option, Some, None, Result, Err, sym, ap, subst, ◌∙◌}
 use Rattle.j_definitions.specs.Array.{Array}
 use Rattle.j_insert.specs.Insertion.{first_noun}
 use Rattle.j_eval.specs.declared.outcome.Halt.{Halt}

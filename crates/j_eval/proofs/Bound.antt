@@ -1,5 +1,5 @@
 -- The bound on rows and moves is never met.
-use Rattle.std.proofs.Common.{◌≡◌, ℕ, zero, suc, ◌+◌, ◌*◌, ◌<◌, ◌≤◌, List, [], ◌∷◌, reverse, length, map, Bool, false, nat_lt, if◌then◌else◌, Option, Some, None, refl, ap, ◌∙◌, arith}
+use Rattle.std.proofs.Common.{◌≡◌, ℕ, zero, suc, ◌+◌, ◌*◌, ◌<◌, List, [], ◌∷◌, length, map, Bool, false, nat_lt, if◌then◌else◌, Option, Some, None, refl, ap, ◌∙◌, arith}
 use Rattle.std.proofs.lemmas.List.{length-reverse, length-map}
 use Rattle.j_entity.specs.Tree.{WordTree}
 use Rattle.j_verbs.specs.State.{State, Outcome, Gave, Erred, Spent, Run, then_do, ◌>>=◌, pure, counted}

@@ -9,3 +9,5 @@ pub mod Cells
 pub mod Between
 pub mod Identities
 pub mod Repeats
+pub mod Obverses
+pub mod Taken

@@ -1,5 +1,5 @@
 -- What the answer of a part of a run says of the outcome.
-use Rattle.std.proofs.Common.{◌≡◌, Result, Ok, Err, Option, ap, sym, subst, refl}
+use Rattle.std.proofs.Common.{◌≡◌, Result, Ok, Err, ap, sym, subst, refl}
 use Rattle.j_definitions.specs.Array.{Array}
 use Rattle.j_definitions.specs.declared.Fault.{Fault}
 use Rattle.j_noun.specs.declared.refusal.Refusal.{Refusal}

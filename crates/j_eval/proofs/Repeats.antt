@@ -1,5 +1,5 @@
 -- A verb time after time, and what is left of it after one time.
-use Rattle.std.proofs.Common.{◌≡◌, ℕ, zero, suc, ◌+◌, ◌-◌, ◌<◌, ◌≤◌, Bool, true, false, List, [], ◌∷◌, map, Option, Result, Err, refl, sym, ap, subst, ◌∙◌, rules, tests, arith}
+use Rattle.std.proofs.Common.{◌≡◌, ℕ, zero, suc, ◌+◌, ◌-◌, ◌<◌, ◌≤◌, Bool, true, false, List, [], ◌∷◌, map, Option, Err, refl, sym, ap, subst, ◌∙◌, rules, tests, arith}
 use Rattle.std.specs.Prelude.{nat_lt, if◌then◌else◌}
 use Rattle.j_definitions.specs.Array.{Array, byte, boxed, arrays_match}
 use Rattle.j_eval.specs.declared.outcome.Halt.{Halt}
@@ -7,7 +7,7 @@ use Rattle.j_eval.specs.Meets.{Running, Meets}
 use Rattle.j_eval.specs.Powers.{once, times, until_same, endless, count_said}
 use Rattle.j_eval.proofs.Parts.{then_err}
 use Rattle.j_verbs.specs.ByRank.{Doing}
-use Rattle.j_verbs.specs.State.{State, Outcome, Gave, Erred, Spent, Run, pure, counted, then_do}
+use Rattle.j_verbs.specs.State.{State, Outcome, Gave, Spent, Run, pure, counted, then_do}
 
 -- a step that gave something was one of the budget, and where none is left nothing is given
 abbrev next : State → State

@@ -1,6 +1,6 @@
 -- What a verb does with one noun or two.
 use Rattle.std.specs.Prelude.{ℕ, zero, suc}
-use Rattle.j_definitions.specs.declared.Fault.TheVariants.{Domain, Nonce, Stack}
+use Rattle.j_definitions.specs.declared.Fault.TheVariants.{Nonce, Stack}
 use Rattle.j_leaves.specs.Names.{NameParts}
 use Rattle.j_entity.specs.Tree.{VerbTree, OperandTree, primitive, named, fork, noun_fork, hook, derived, derived2, explicit, explicit1, explicit2, verb, noun, rank_list}
 use Rattle.j_entity.specs.Heights.{verb_height}

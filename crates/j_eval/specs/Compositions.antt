@@ -2,9 +2,13 @@
 use Rattle.std.specs.Prelude.{Option, Some, None}
 use Rattle.j_definitions.specs.Array.{Array}
 use Rattle.j_definitions.specs.declared.Fault.TheVariants.{Nonce}
+use Rattle.j_leaves.specs.declared.primitive.Primitive.{Primitive}
 use Rattle.j_entity.specs.Tree.{OperandTree, verb, noun, rank_list}
-use Rattle.j_verbs.specs.ByRank.{Doing}
+use Rattle.j_entity.specs.Ranks.{primitive_ranks}
+use Rattle.j_trains.specs.Obverses.{obverse_word}
+use Rattle.j_verbs.specs.ByRank.{Doing, by_ranks}
 use Rattle.j_verbs.specs.State.{◌>>=◌, fail}
+use Rattle.j_verbs.specs.Words.{word}
 use Rattle.j_eval.specs.Operands.{Operand, unformed}
 use Rattle.j_eval.specs.Trains.{left_of}
 
@@ -21,6 +25,23 @@ over u v (Some x) y = do
   b ← v.does None y
   a ← v.does None x
   u.does (Some a) b
+
+-- what a word does, if there is one
+abbrev pub word_does : Option Primitive → Doing
+word_does (Some p) x y = by_ranks (primitive_ranks p) (word p) x y
+word_does None x y = unformed x y
+
+-- the obverse of an operand, which is a word
+abbrev pub operand_obverse : OperandTree → Option Primitive
+operand_obverse (verb v) = obverse_word v
+operand_obverse (noun n) = None
+operand_obverse (rank_list l) = None
+
+-- `u&.v`: as `u&v`, and then the obverse of v
+abbrev pub under : Operand → Operand → Doing
+under u v x y = do
+  r ← over u v x y
+  word_does (operand_obverse v.tree) None r
 
 -- `m&v`: m on the left of v. There is no dyad yet.
 abbrev pub left_bound : Array → Operand → Doing

@@ -1,5 +1,5 @@
 -- A verb between items, and on all pairs of cells.
-use Rattle.std.specs.Prelude.{ℕ, ℤ, List, [], ◌∷◌, drop, replicate, Option, Some, None, Result, Ok, Err}
+use Rattle.std.specs.Prelude.{ℕ, ℤ, List, [], ◌∷◌, drop, replicate, Option, Some, None, Result, Err}
 use Rattle.j_definitions.specs.Array.{Array, number, product}
 use Rattle.j_definitions.specs.Limits.{limited}
 use Rattle.j_definitions.specs.declared.Fault.{Fault}

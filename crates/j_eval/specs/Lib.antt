@@ -8,9 +8,12 @@ pub mod Compositions
 pub mod Ranked
 pub mod Powers
 pub mod Insertion
+pub mod Amending
+pub mod Pieces
 pub mod Modifiers
 pub mod Applying
 pub mod EachCell
+pub mod Sources
 pub mod Meaning
 pub mod Meets
 pub mod Machine

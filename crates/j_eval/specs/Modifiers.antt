@@ -1,21 +1,23 @@
--- What each modifier's verb does. Where a word isn't an adverb or isn't a conjunction, and where it isn't there yet, no row forms the verb.
+-- What each modifier's verb does. Where a word isn't an adverb or isn't a conjunction no row forms the verb.
 use Rattle.j_leaves.specs.declared.modifier.Modifier.{Modifier}
 use Rattle.j_leaves.specs.declared.modifier.Modifier.TheVariants as m
 use Rattle.j_trains.specs.Modifiers.{adverb_fault, conjunction_fault}
 use Rattle.j_verbs.specs.ByRank.{Doing}
-use Rattle.j_eval.specs.Operands.{Operand, unformed, where_formed}
+use Rattle.j_eval.specs.Operands.{Operand, later, unformed, where_formed}
 use Rattle.j_eval.specs.Insertion.{insert, inner_product}
-use Rattle.j_eval.specs.Compositions.{at, over, bond, passive}
+use Rattle.j_eval.specs.Amending.{amend}
+use Rattle.j_eval.specs.Compositions.{at, over, bond, passive, under}
+use Rattle.j_eval.specs.Pieces.{prefix, suffix}
 use Rattle.j_eval.specs.Powers.{power}
 use Rattle.j_eval.specs.Ranked.{rank}
 
 abbrev pub modified : Modifier → Operand → Doing
 modified m.Insert u = insert u
-modified m.Prefix u = unformed
-modified m.Suffix u = unformed
-modified m.Oblique u = unformed
+modified m.Prefix u = prefix u
+modified m.Suffix u = suffix u
+modified m.Oblique u = later
 modified m.Passive u = passive u
-modified m.Amend u = unformed
+modified m.Amend u = amend u
 modified m.Cut u = unformed
 modified m.Rank u = unformed
 modified m.Atop u = unformed
@@ -29,13 +31,13 @@ modified m.Adverse u = unformed
 modified m.Monadic u = unformed
 
 abbrev pub joined : Modifier → Operand → Operand → Doing
-joined m.Cut u v = unformed
+joined m.Cut u v = later
 joined m.Rank u v = rank u
 joined m.Atop u v = at u v
 joined m.At u v = at u v
 joined m.Bond u v = bond u v
 joined m.Appose u v = over u v
-joined m.Under u v = unformed
+joined m.Under u v = under u v
 joined m.PowerOf u v = power u v
 joined m.Product u v = inner_product u v
 joined m.Adverse u v = unformed

@@ -6,7 +6,7 @@ use Rattle.j_entity.specs.Tree.{OperandTree, verb, noun, rank_list}
 use Rattle.j_trains.specs.Modifiers.{times_fault}
 use Rattle.j_verbs.specs.ByRank.{Doing}
 use Rattle.j_verbs.specs.State.{◌>>=◌, counted, fail, pure, Spent}
-use Rattle.j_eval.specs.Operands.{Operand, unformed}
+use Rattle.j_eval.specs.Operands.{Operand}
 
 -- a verb once, which is a step
 abbrev pub once : Doing → Doing

@@ -1,5 +1,5 @@
 -- Names for the sentences worked out by hand.
-use Rattle.std.specs.Prelude.{ℕ, ℤ, List, [], ◌∷◌, length, map as mapped}
+use Rattle.std.specs.Prelude.{ℕ, ℤ, List, [], ◌∷◌, length, map as mapped, Some, None}
 use Rattle.std.specs.FinMap as map
 use Rattle.j_definitions.specs.Array.{Array, number, byte, atom_array}
 use Rattle.j_definitions.specs.declared.Kind.TheVariants.{Number, Character}
@@ -9,8 +9,10 @@ use Rattle.j_leaves.specs.declared.modifier.Modifier.{Modifier}
 use Rattle.j_leaves.specs.declared.modifier.Modifier.TheVariants as m
 use Rattle.j_names.specs.Names.{NameMap}
 use Rattle.j_names.specs.Rows.{f, with}
-use Rattle.j_entity.specs.Tree.{EntityTree, WordTree, primitive, modifier, a_noun, a_verb, an_adverb, a_conjunction, entity}
+use Rattle.j_entity.specs.Tree.{EntityTree, VerbTree, WordTree, primitive, derived, derived2, modifier, a_noun, a_verb, an_adverb, a_conjunction, entity}
+use Rattle.j_entity.specs.Tree as operand
 use Rattle.j_verbs.specs.State.{State, Outcome, Gave}
+use Rattle.j_eval.specs.Applying.{call, nested}
 use Rattle.j_eval.specs.Meaning.{top}
 
 -- one number, one character, and a list of numbers
@@ -47,6 +49,35 @@ at = joining m.At
 
 abbrev pub swapped : WordTree
 swapped = entity (an_adverb (modifier m.Passive))
+
+abbrev pub amending : WordTree
+amending = entity (an_adverb (modifier m.Amend))
+
+-- numbers in a shape
+abbrev pub shaped : List ℕ → List ℤ → Array
+shaped s ns = record { kind = Number; shape = s; atoms = mapped number ns }
+
+-- a word between items, and two of them with a dot
+abbrev pub inserted : Primitive → VerbTree
+inserted v = derived m.Insert (operand.verb (primitive v))
+
+abbrev pub dotted : VerbTree → Primitive → VerbTree
+dotted u v = derived2 m.Product (operand.verb u) (operand.verb (primitive v))
+
+-- a word under another one
+abbrev pub under : Primitive → Primitive → VerbTree
+under u v = derived2 m.Under (operand.verb (primitive u)) (operand.verb (primitive v))
+
+-- a verb on pieces
+abbrev pub on_parts : Modifier → VerbTree → VerbTree
+on_parts a u = derived a (operand.verb u)
+
+-- what a verb does with one noun and with two, where there are levels enough
+abbrev pub on_one : VerbTree → Array → State → Outcome Array
+on_one v y s = call (nested 9) v None y s
+
+abbrev pub on_two : Array → VerbTree → Array → State → Outcome Array
+on_two x v y s = call (nested 9) v (Some x) y s
 
 -- so many steps counted of a hundred, and bytes shown
 abbrev pub after : ℕ → List ℕ → State

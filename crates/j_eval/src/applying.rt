@@ -119,7 +119,11 @@ impl Machine {
             Tree::Fork(f, g, h) => self.fork(room, f, g, h, x, y),
             Tree::NounFork(n, g, h) => self.noun_fork(room, n, g, h, x, y),
             Tree::Hook(g, h) => self.hook(room, g, h, x, y),
-            Tree::Derived(m, u) => self.adverb(room, m, u, x, y),
+            // At two places, so that it keeps a frame of its own.
+            Tree::Derived(m, u) => match x {
+                Some(_) => self.adverb(room, m, u, x, y),
+                None => self.adverb(room, m, u, None, y),
+            },
             Tree::Derived2(m, u, v) => self.conjunction(room, m, u, v, x, y),
             Tree::Explicit(_) | Tree::Explicit1(_, _) | Tree::Explicit2(_, _, _) => Err(
                 Halt::Failed(Fault::Nonce),

@@ -6,15 +6,17 @@ ghost use Rattle.j_rank.specs.Assembly.{assemble};
 ghost use Rattle.j_eval.specs.Applying.{nested};
 ghost use Rattle.j_eval.specs.EachCell.{on_each};
 ghost use Rattle.j_eval.specs.Meets.{Running, Kept, Meets, NoMemoryOr, Onward};
-ghost use Rattle.j_verbs.specs.ByRank.{HasPairs, IsWhole, source, pair, fills, zero_atom, by_ranks, by_source, on_pairs, on_fills, fill_result};
+ghost use Rattle.j_eval.specs.Sources.{HasCells, source_of};
+ghost use Rattle.j_verbs.specs.ByRank.{IsWhole, zero_atom, by_ranks, by_source, on_pairs, on_fills, fill_result};
 ghost use Rattle.j_verbs.specs.State.{Outcome, else_do, or_fault, pure};
 
 use crate::machine::Machine;
 use crate::outcome::{Halt, or_halt};
+use crate::sources::{CellsFrom, cell_count, collector};
 use j_entity::{Operand, Verb};
 use j_leaves::Ranks;
 use j_noun::Noun;
-use j_rank::{Collector, Plan, alone, are_whole, is_whole};
+use j_rank::{Collector, alone, are_whole, is_whole};
 use j_verbs::planned;
 
 // What is done on each cell: what a verb does on a cell of its own ranks, or an operand as a verb.
@@ -36,13 +38,6 @@ fn or_zero(r: Result<Noun, Halt>) -> Result<Noun, Halt>
     }
 }
 
-// A collector of the results of a plan's pairs.
-fn collector(plan: &Plan) -> Collector
-    ensures { result ≡ record { frame = plan.now.agreed.frame; results = [] } }
-{
-    Collector::new(plan.frame().copy())
-}
-
 // What needs memory, apart from the functions that call each other.
 impl Machine {
     // Takes the next result.
@@ -51,36 +46,6 @@ impl Machine {
         ensures kept { Kept self.old self.new }
     {
         Ok(results.push(&mut self.pool, r)?)
-    }
-
-    // The cells that meet at place k of the frame.
-    fn pair(
-        &mut self,
-        plan: &Plan,
-        x: Option<&Noun>,
-        y: &Noun,
-        k: usize,
-    ) -> Result<(Option<Noun>, Noun), Halt>
-        requires place { k < product plan.now.agreed.frame }
-        requires cells { HasPairs plan.now (option_copied x) y.now }
-        ensures value { NoMemoryOr result (λ c. c ≡ pair plan.now (option_copied x.entry) y.now k) }
-        ensures kept { Kept self.old self.new }
-    {
-        Ok(j_verbs::pair(&mut self.pool, plan, x, y, k)?)
-    }
-
-    // The cells of fills.
-    fn fills(
-        &mut self,
-        plan: &Plan,
-        x: Option<&Noun>,
-        y: &Noun,
-    ) -> Result<(Option<Noun>, Noun), Halt>
-        requires { HasPairs plan.now (option_copied x) y.now }
-        ensures gives { Meets result self.new (or_fault (fills plan.now (option_copied x.entry) y.now) self.old.state) }
-        ensures onward { Onward self.old self.new }
-    {
-        Ok(j_verbs::fills(&mut self.pool, plan, x, y)?)
     }
 
     // The noun of the results of all pairs.
@@ -152,30 +117,28 @@ impl Machine {
         ensures onward { Onward self.old self.new }
     {
         match planned(r, x, y) {
-            Ok(plan) => self.by_plan(room, each, &plan, x, y),
+            Ok(plan) => self.by_source(room, each, CellsFrom::Arguments(&plan, x, y)),
             Err(fault) => Err(Halt::Failed(fault)),
         }
     }
 
-    // What is done on the cells of a plan.
+    // What is done on cells.
     #[cycle(eval)]
     #[tactic(auto, using(crate::proofs::Cells::where_none, crate::proofs::Cells::where_some))]
-    fn by_plan(
+    pub(crate) fn by_source(
         &mut self,
         room: u32,
         each: EachCell<'_>,
-        plan: &Plan,
-        x: Option<&Noun>,
-        y: &Noun,
+        cells: CellsFrom<'_>,
     ) -> Result<Noun, Halt>
-        requires { HasPairs plan.now (option_copied x) y.now }
-        ensures gives { Meets result self.new (by_source (on_each (nested room) each.entry) (source plan.now (option_copied x.entry) y.now) self.old.state) }
+        requires { HasCells cells }
+        ensures gives { Meets result self.new (by_source (on_each (nested room) each.entry) (source_of cells.entry) self.old.state) }
         ensures onward { Onward self.old self.new }
     {
-        if plan.count() == 0 {
-            self.over_fills(room, each, plan, x, y)
+        if cell_count(cells) == 0 {
+            self.over_fills(room, each, cells)
         } else {
-            self.over_pairs(room, each, plan, x, y)
+            self.over_pairs(room, each, cells)
         }
     }
 
@@ -185,17 +148,15 @@ impl Machine {
         &mut self,
         room: u32,
         each: EachCell<'_>,
-        plan: &Plan,
-        x: Option<&Noun>,
-        y: &Noun,
+        cells: CellsFrom<'_>,
     ) -> Result<Noun, Halt>
-        requires none { product plan.now.agreed.frame ≡ 0 }
-        requires cells { HasPairs plan.now (option_copied x) y.now }
-        ensures gives { Meets result self.new (on_fills (on_each (nested room) each.entry) (source plan.now (option_copied x.entry) y.now) self.old.state) }
+        requires none { product (source_of cells).frame ≡ 0 }
+        requires cells { HasCells cells }
+        ensures gives { Meets result self.new (on_fills (on_each (nested room) each.entry) (source_of cells.entry) self.old.state) }
         ensures onward { Onward self.old self.new }
     {
-        let r = or_zero(self.fill_result(room, each, plan, x, y))?;
-        let mut results = collector(plan);
+        let r = or_zero(self.fill_result(room, each, cells))?;
+        let mut results = collector(cells);
         self.collect(&mut results, r)?;
         self.assembled(results)
     }
@@ -242,15 +203,13 @@ impl Machine {
         &mut self,
         room: u32,
         each: EachCell<'_>,
-        plan: &Plan,
-        x: Option<&Noun>,
-        y: &Noun,
+        cells: CellsFrom<'_>,
     ) -> Result<Noun, Halt>
-        requires { HasPairs plan.now (option_copied x) y.now }
-        ensures gives { Meets result self.new (fill_result (on_each (nested room) each.entry) (source plan.now (option_copied x.entry) y.now) self.old.state) }
+        requires { HasCells cells }
+        ensures gives { Meets result self.new (fill_result (on_each (nested room) each.entry) (source_of cells.entry) self.old.state) }
         ensures onward { Onward self.old self.new }
     {
-        let (left, right) = self.fills(plan, x, y)?;
+        let (left, right) = self.fills(cells)?;
         self.on_cells(room, each, left, right)
     }
 
@@ -260,18 +219,16 @@ impl Machine {
         &mut self,
         room: u32,
         each: EachCell<'_>,
-        plan: &Plan,
-        x: Option<&Noun>,
-        y: &Noun,
+        cells: CellsFrom<'_>,
     ) -> Result<Noun, Halt>
-        requires some { 0 < product plan.now.agreed.frame }
-        requires cells { HasPairs plan.now (option_copied x) y.now }
-        ensures gives { Meets result self.new (on_pairs (on_each (nested room) each.entry) (source plan.now (option_copied x.entry) y.now) self.old.state) }
+        requires some { 0 < length (source_of cells).pairs }
+        requires cells { HasCells cells }
+        ensures gives { Meets result self.new (on_pairs (on_each (nested room) each.entry) (source_of cells.entry) self.old.state) }
         ensures onward { Onward self.old self.new }
     {
-        let mut results = collector(plan);
-        for k in 0..plan.count() {
-            let (left, right) = self.pair(plan, x, y, k)?;
+        let mut results = collector(cells);
+        for k in 0..cell_count(cells) {
+            let (left, right) = self.cells_at(cells, k)?;
             let r = self.on_cells(room, each, left, right)?;
             self.collect(&mut results, r)?;
         }

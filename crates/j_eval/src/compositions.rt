@@ -1,16 +1,30 @@
 // Verbs that are applied to what other verbs give, or to arguments that are given beforehand.
 ghost use Rattle.std.specs.Option.{option_copied};
 ghost use Rattle.j_entity.specs.View.{operand_of};
-ghost use Rattle.std.specs.Prelude.{Some, None};
+ghost use Rattle.std.specs.Prelude.{◌≡◌, Some, None, IfSome};
+ghost use Rattle.j_entity.specs.Heights.{verb_height};
+ghost use Rattle.j_trains.specs.Obverses.{verb_of_word};
 ghost use Rattle.j_verbs.specs.State.{then_do};
 ghost use Rattle.j_eval.specs.Applying.{does, nested, seen};
-ghost use Rattle.j_eval.specs.Compositions.{at, bond, left_bound, over, passive, right_bound};
+ghost use Rattle.j_eval.specs.Compositions.{at, bond, left_bound, over, passive, right_bound, operand_obverse, under, word_does};
 ghost use Rattle.j_eval.specs.Meets.{Meets, Onward};
 
 use crate::machine::Machine;
 use crate::outcome::Halt;
-use j_entity::Operand;
+use j_entity::{Operand, Verb};
 use j_noun::{Fault, Noun};
+use j_trains::obverse;
+
+// The obverse of an operand, if it has one.
+fn operand_obverse(v: &Operand) -> Option<Verb>
+    ensures obverse { result ≡ verb_of_word (operand_obverse (operand_of v.now)) }
+    ensures low { IfSome result (λ w. verb_height w ≡ 0) }
+{
+    match v {
+        Operand::Verb(v) => obverse(v),
+        Operand::Noun(_) | Operand::Ranks(_) => None,
+    }
+}
 
 impl Machine {
     // `u@v` and `u@:v`
@@ -70,6 +84,42 @@ impl Machine {
         let left = self.does(room, v, None, x)?;
         let answer = self.does(room, u, Some(&left), right);
         drop(left);
+        answer
+    }
+
+    // The obverse of an operand.
+    #[cycle(eval)]
+    #[tactic(auto, using(crate::proofs::Obverses::undone, crate::proofs::Obverses::not_undone))]
+    fn undo(&mut self, room: u32, v: &Operand, y: &Noun) -> Result<Noun, Halt>
+        ensures gives { Meets result self.new (word_does (operand_obverse (operand_of v.now)) None y.now self.old.state) }
+        ensures onward { Onward self.old self.new }
+    {
+        match operand_obverse(v) {
+            Some(w) => {
+                let answer = self.apply(room, &w, None, y);
+                drop(w);
+                answer
+            }
+            None => Err(Halt::Failed(Fault::Domain)),
+        }
+    }
+
+    // `u&.v`
+    #[cycle(eval)]
+    pub(crate) fn under(
+        &mut self,
+        room: u32,
+        u: &Operand,
+        v: &Operand,
+        x: Option<&Noun>,
+        y: &Noun,
+    ) -> Result<Noun, Halt>
+        ensures gives { Meets result self.new (under (seen (nested room) (operand_of u.now)) (seen (nested room) (operand_of v.now)) (option_copied x.entry) y.now self.old.state) }
+        ensures onward { Onward self.old self.new }
+    {
+        let r = self.over(room, u, v, x, y)?;
+        let answer = self.undo(room, v, &r);
+        drop(r);
         answer
     }
 

@@ -1,6 +1,7 @@
 //! Evaluates sentences: words, trains, names, and the verbs that modifiers make.
 #![tactic(auto)]
 
+mod amending;
 mod applying;
 mod by_rank;
 mod compositions;
@@ -8,10 +9,12 @@ mod insertion;
 mod machine;
 mod modifiers;
 mod outcome;
+mod pieces;
 mod powers;
 mod ranked;
 mod rows;
 mod sentence;
+mod sources;
 mod stack;
 mod trains;
 
@@ -19,4 +22,7 @@ pub use j_entity::{Entity, Prepared};
 pub use j_explicit::{LineFault, prepare};
 pub use machine::Machine;
 pub use outcome::{Halt, Outcome};
-pub use rows::{modifier_rows, name_rows, parsing_laws, power_rows, table_rows, worked_rows};
+pub use rows::{
+    insertion_rows, modifier_rows, name_rows, parsing_laws, piece_rows, power_rows, table_rows,
+    under_rows, worked_rows,
+};

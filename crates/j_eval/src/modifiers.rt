@@ -28,11 +28,11 @@ impl Machine {
         match m {
             Modifier::Passive => self.passive(room, u, x, y),
             Modifier::Insert => self.insert(room, u, x, y),
-            Modifier::Prefix
-            | Modifier::Suffix
-            | Modifier::Oblique
-            | Modifier::Cut
-            | Modifier::Amend
+            Modifier::Amend => self.amend(u, x, y),
+            Modifier::Prefix => self.prefix(room, u, x, y),
+            Modifier::Suffix => self.suffix(room, u, x, y),
+            Modifier::Oblique => Err(Halt::Failed(Fault::Nonce)),
+            Modifier::Cut
             | Modifier::Rank
             | Modifier::Atop
             | Modifier::At
@@ -85,6 +85,8 @@ impl Machine {
             Modifier::At => self.at(room, u, v, x, y),
             Modifier::Bond => self.bond(room, u, v, x, y),
             Modifier::Appose => self.over(room, u, v, x, y),
+            Modifier::Under => self.under(room, u, v, x, y),
+            Modifier::Cut => Err(Halt::Failed(Fault::Nonce)),
             Modifier::Product => self.product(room, u, v, x, y),
             // At two places, so that it keeps a frame of its own.
             Modifier::PowerOf => match x {
@@ -95,10 +97,8 @@ impl Machine {
             | Modifier::Prefix
             | Modifier::Suffix
             | Modifier::Oblique
-            | Modifier::Cut
             | Modifier::Passive
             | Modifier::Amend
-            | Modifier::Under
             | Modifier::Adverse
             | Modifier::Monadic => Err(Halt::Failed(Fault::Domain)),
         }

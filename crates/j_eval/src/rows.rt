@@ -17,7 +17,7 @@ ghost use Rattle.j_eval.specs.Applying.{call, nested};
 ghost use Rattle.j_eval.specs.Table.{row_at};
 ghost use Rattle.j_eval.specs.Meaning.{top};
 ghost use Rattle.j_eval.specs.Laws.{BoundIsEnough};
-ghost use Rattle.j_eval.specs.Rows.{atom, character, list, noun, verb, plus, minus, times, at, joining, swapped, within, after, knowing, f_is, top_of, gave};
+ghost use Rattle.j_eval.specs.Rows.{atom, character, list, noun, verb, plus, minus, times, at, joining, swapped, amending, shaped, inserted, dotted, under, on_parts, on_one, on_two, within, after, knowing, f_is, top_of, gave};
 
 /// Laws: which row four entries match, worked out by hand.
 pub fn table_rows()
@@ -78,6 +78,63 @@ pub fn modifier_rows()
     ensures noun_for_each { top_of (noun (atom (pos 7)) ∷ joining m.Rank ∷ noun (atom (pos 0)) ∷ verb p.Right ∷ noun (list (pos 1 ∷ pos 2 ∷ [])) ∷ []) ≡ gave (a_noun (list (pos 7 ∷ pos 7 ∷ []))) 4 (codes "7 7" ++ 10 ∷ []) }
     ensures noun_for_all { top_of (noun (atom (pos 7)) ∷ joining m.Rank ∷ ranks_word (Infinite ∷ []) ∷ verb p.Right ∷ noun (list (pos 1 ∷ pos 2 ∷ [])) ∷ []) ≡ gave (a_noun (atom (pos 7))) 4 (codes "7" ++ 10 ∷ []) }
     ensures unlike_frames { top_of (noun (list (pos 1 ∷ pos 2 ∷ [])) ∷ plus ∷ joining m.Rank ∷ noun (atom (pos 0)) ∷ verb p.Right ∷ noun (list (pos 1 ∷ pos 2 ∷ pos 3 ∷ [])) ∷ []) ≡ Erred fault.Length (after 4 []) }
+{}
+
+/// Laws: verbs under others, and nouns with others at some places, worked out by hand.
+pub fn under_rows()
+    ensures with_steps { top_of (noun (atom (pos 2)) ∷ plus ∷ joining m.Under ∷ verb p.Double ∷ noun (atom (pos 3)) ∷ []) ≡ gave (a_noun (atom (pos 5))) 3 (codes "5" ++ 10 ∷ []) }
+    ensures one_more { (s : State) → on_one (under p.Minus p.GreaterEqual) (atom (pos 3)) s ≡ Gave (atom (negsuc 4)) s }
+    ensures one_less { (s : State) → on_one (under p.Minus p.LessEqual) (atom (pos 3)) s ≡ Gave (atom (negsuc 0)) s }
+    ensures of_itself { (s : State) → on_two (atom (pos 1)) (under p.Minus p.Minus) (list (pos 5 ∷ pos 7 ∷ [])) s ≡ Gave (list (negsuc 3 ∷ negsuc 5 ∷ [])) s }
+    ensures each_cell { (s : State) → on_one (under p.Three p.Minus) (list (pos 1 ∷ pos 2 ∷ [])) s ≡ Gave (list (negsuc 2 ∷ negsuc 2 ∷ [])) s }
+    ensures right_part_first { (s : State) → on_two (character 97) (under p.Plus p.Divide) (atom (pos 2)) s ≡ Erred fault.Quotient s }
+    ensures fault_of_obverse { (s : State) → on_one (under p.GreaterEqual p.Double) (atom (pos 3)) s ≡ Erred fault.Quotient s }
+    ensures no_obverse { (s : State) → on_one (under p.Plus p.Times) (atom (pos 1)) s ≡ Erred fault.Domain s }
+    ensures amended { top_of (noun (atom (pos 7)) ∷ open_mark ∷ noun (atom (pos 1)) ∷ amending ∷ close_mark ∷ noun (list (pos 4 ∷ pos 5 ∷ pos 6 ∷ [])) ∷ [])
+        ≡ gave (a_noun (list (pos 4 ∷ pos 7 ∷ pos 6 ∷ []))) 4 (codes "4 7 6" ++ 10 ∷ []) }
+    ensures amended_without { top_of (noun (atom (pos 1)) ∷ amending ∷ noun (list (pos 4 ∷ pos 5 ∷ [])) ∷ []) ≡ Erred fault.Nonce (after 3 []) }
+    ensures amended_by_verb { (s : State) → on_two (atom (pos 1)) (derived m.Amend (operand.verb (primitive p.Plus))) (atom (pos 1)) s ≡ Erred fault.Domain s }
+{}
+
+/// Laws: verbs between items and on all pairs of cells, worked out by hand.
+pub fn insertion_rows()
+    ensures from_the_right { (s : State) → on_one (inserted p.Minus) (list (pos 1 ∷ pos 2 ∷ pos 4 ∷ [])) s ≡ Gave (atom (pos 3)) s }
+    ensures first_from_the_right { (s : State) → on_one (inserted p.Plus) (list (pos 9223372036854775807 ∷ pos 1 ∷ negsuc 0 ∷ [])) s ≡ Gave (atom (pos 9223372036854775807)) s }
+    ensures fault_from_the_right { (s : State) → on_one (inserted p.Plus) (list (negsuc 0 ∷ pos 1 ∷ pos 9223372036854775807 ∷ [])) s ≡ Erred fault.Overflow s }
+    ensures an_atom { (s : State) → on_one (inserted p.Minus) (atom (pos 5)) s ≡ Gave (atom (pos 5)) s }
+    ensures one_item { (s : State) → on_one (inserted p.Minus) (list (pos 5 ∷ [])) s ≡ Gave (atom (pos 5)) s }
+    ensures one_character { (s : State) → on_one (inserted p.Plus) (character 97) s ≡ Gave (character 97) s }
+    ensures none { (s : State) → on_one (inserted p.Plus) (list []) s ≡ Gave (atom (pos 0)) s }
+    ensures none_of_times { (s : State) → on_one (inserted p.Times) (list []) s ≡ Gave (atom (pos 1)) s }
+    ensures no_rows { (s : State) → on_one (inserted p.Plus) (shaped (0 ∷ 3 ∷ []) []) s ≡ Gave (list (pos 0 ∷ pos 0 ∷ pos 0 ∷ [])) s }
+    ensures no_columns { (s : State) → on_one (inserted p.Plus) (shaped (3 ∷ 0 ∷ []) []) s ≡ Gave (list []) s }
+    ensures rows { (s : State) → on_one (inserted p.Plus) (shaped (2 ∷ 3 ∷ []) (pos 0 ∷ pos 1 ∷ pos 2 ∷ pos 3 ∷ pos 4 ∷ pos 5 ∷ [])) s ≡ Gave (list (pos 3 ∷ pos 5 ∷ pos 7 ∷ [])) s }
+    ensures no_identity { (s : State) → on_one (inserted p.Ravel) (list []) s ≡ Erred fault.Domain s }
+    ensures no_identity_of_train { (s : State) → on_one (derived m.Insert (operand.verb (hook (primitive p.Plus) (primitive p.Minus)))) (list []) s ≡ Erred fault.Domain s }
+    ensures joined { (s : State) → on_one (inserted p.Ravel) (shaped (2 ∷ 2 ∷ []) (pos 1 ∷ pos 2 ∷ pos 3 ∷ pos 4 ∷ [])) s ≡ Gave (list (pos 1 ∷ pos 2 ∷ pos 3 ∷ pos 4 ∷ [])) s }
+    ensures table { (s : State) → on_two (list (pos 10 ∷ pos 20 ∷ [])) (inserted p.Minus) (list (pos 1 ∷ pos 2 ∷ pos 3 ∷ [])) s
+        ≡ Gave (shaped (2 ∷ 3 ∷ []) (pos 9 ∷ pos 8 ∷ pos 7 ∷ pos 19 ∷ pos 18 ∷ pos 17 ∷ [])) s }
+    ensures table_of_whole { (s : State) → on_two (list (pos 1 ∷ pos 2 ∷ [])) (inserted p.Ravel) (list (pos 3 ∷ [])) s ≡ Gave (list (pos 1 ∷ pos 2 ∷ pos 3 ∷ [])) s }
+    ensures product { (s : State) → on_two (list (pos 1 ∷ pos 2 ∷ [])) (dotted (inserted p.Plus) p.Times) (list (pos 3 ∷ pos 4 ∷ [])) s ≡ Gave (atom (pos 11)) s }
+    ensures product_of_rows { (s : State) → on_two (shaped (2 ∷ 2 ∷ []) (pos 1 ∷ pos 2 ∷ pos 3 ∷ pos 4 ∷ [])) (dotted (inserted p.Plus) p.Times) (list (pos 5 ∷ pos 6 ∷ [])) s ≡ Gave (list (pos 17 ∷ pos 39 ∷ [])) s }
+    ensures product_of_one { (s : State) → on_one (dotted (inserted p.Plus) p.Times) (atom (pos 1)) s ≡ Erred fault.Nonce s }
+    ensures no_identity_of_name { (s : State) → on_one (derived m.Insert (operand.verb (named f endless))) (list []) s ≡ Erred fault.Domain s }
+{}
+
+/// Laws: verbs on pieces, worked out by hand.
+pub fn piece_rows()
+    ensures prefixes { (s : State) → on_one (on_parts m.Prefix (inserted p.Plus)) (list (pos 1 ∷ pos 2 ∷ pos 3 ∷ [])) s ≡ Gave (list (pos 1 ∷ pos 3 ∷ pos 6 ∷ [])) s }
+    ensures no_prefixes { (s : State) → on_one (on_parts m.Prefix (inserted p.Plus)) (list []) s ≡ Gave (list []) s }
+    ensures zero_where_fills_err { (s : State) → on_one (on_parts m.Prefix (inserted p.LesserOf)) (list []) s ≡ Gave (list []) s }
+    ensures first_fault_told { (s : State) → on_one (on_parts m.Prefix (inserted p.Plus)) (list (pos 9223372036854775807 ∷ pos 1 ∷ pos 1 ∷ [])) s ≡ Erred fault.Overflow s }
+    ensures suffixes { (s : State) → on_one (on_parts m.Suffix (inserted p.Plus)) (list (pos 1 ∷ pos 2 ∷ pos 3 ∷ [])) s ≡ Gave (list (pos 6 ∷ pos 5 ∷ pos 3 ∷ [])) s }
+    ensures infixes { (s : State) → on_two (atom (pos 2)) (on_parts m.Prefix (inserted p.Plus)) (list (pos 1 ∷ pos 2 ∷ pos 3 ∷ pos 4 ∷ [])) s ≡ Gave (list (pos 3 ∷ pos 5 ∷ pos 7 ∷ [])) s }
+    ensures runs { (s : State) → on_two (atom (negsuc 1)) (on_parts m.Prefix (inserted p.Plus)) (list (pos 1 ∷ pos 2 ∷ pos 3 ∷ [])) s ≡ Gave (list (pos 3 ∷ pos 3 ∷ [])) s }
+    ensures runs_of_none { (s : State) → on_two (atom (pos 0)) (on_parts m.Prefix (inserted p.LesserOf)) (list (pos 1 ∷ pos 2 ∷ [])) s ≡ Erred fault.Domain s }
+    ensures by_character { (s : State) → on_two (character 97) (on_parts m.Prefix (inserted p.Plus)) (list (pos 1 ∷ [])) s ≡ Erred fault.Domain s }
+    ensures by_each_number { (s : State) → on_two (list (pos 1 ∷ pos 2 ∷ [])) (on_parts m.Prefix (inserted p.Plus)) (list (pos 5 ∷ pos 7 ∷ [])) s ≡ Gave (shaped (2 ∷ 2 ∷ []) (pos 5 ∷ pos 7 ∷ pos 12 ∷ pos 0 ∷ [])) s }
+    ensures outfixes { (s : State) → on_two (atom (pos 1)) (on_parts m.Suffix (inserted p.Plus)) (list (pos 1 ∷ pos 2 ∷ pos 4 ∷ [])) s ≡ Gave (list (pos 6 ∷ pos 5 ∷ pos 3 ∷ [])) s }
+    ensures no_keys_yet { (s : State) → on_one (on_parts m.Oblique (inserted p.Plus)) (list (pos 1 ∷ [])) s ≡ Erred fault.Nonce s }
 {}
 
 /// Laws: a verb time after time, worked out by hand, with its steps.

@@ -7,13 +7,14 @@ use Rattle.j_rank.specs.Collected.{Collected}
 use Rattle.j_entity.specs.View.{operand_of}
 use Rattle.j_eval.specs.Applying.{does, nested}
 use Rattle.j_eval.specs.EachCell.{on_each}
-use Rattle.j_eval.specs.Meets.{Meets, Running}
+use Rattle.j_eval.specs.Meets.{Meets}
 use Rattle.j_eval.proofs.Runs.{meets_call}
+use Rattle.j_eval.specs.Sources.{source_of, cells_at}
+use Rattle.j_eval.proofs.Taken.{cells_from}
 use Rattle.j_eval.proofs.Cells.{ranks_err, ranks_ok, ranks_whole, cells_begun, cells_more, cells_err, cells_end}
 use Rattle.j_eval.proofs.Repeats.{times_more, times_err, more, end, end_err}
-use Rattle.j_insert.specs.Insertion.{all_items, items_from_right}
-use Rattle.j_eval.specs.Applying.{seen}
-use Rattle.j_eval.proofs.Between.{between_more, between_err, between_end, insert_some, insert_none}
+use Rattle.j_insert.specs.Insertion.{items_from_right}
+use Rattle.j_eval.proofs.Between.{between_more}
 use Rattle.j_eval.proofs.machine.Machine.+eval.Goals as goal
 
 pub call-returns-in-Some-clause-gives : goal.call-returns-in-Some-clause-gives
@@ -24,7 +25,7 @@ by_cells-returns-in-Err-clause-gives t c = ranks_err c.args.r (on_each (nested c
 
 pub by_cells-returns-in-Ok-clause-gives : goal.by_cells-returns-in-Ok-clause-gives
 by_cells-returns-in-Ok-clause-gives t c =
-    ranks_ok c.args.r (on_each (nested c.args.room) c.args.each) (option_copied c.args.x) c.args.y.now c.in-Ok.plan c.by_plan.result c.by_plan.new.self c.args.self.now.state (sym c.in-Ok.ensures.plan) c.by_plan.ensures.gives
+    ranks_ok c.args.r (on_each (nested c.args.room) c.args.each) (option_copied c.args.x) c.args.y.now c.in-Ok.plan c.by_source.result c.by_source.new.self c.args.self.now.state (sym c.in-Ok.ensures.plan) c.by_source.ensures.gives
 
 pub on_whole-returns-in-Err-clause-gives : goal.on_whole-returns-in-Err-clause-gives
 on_whole-returns-in-Err-clause-gives t c =
@@ -43,7 +44,7 @@ over_pairs-loop-k-init t c =
     record {
       frame = ap (λ (r : Collected). r.frame) c.collector-results.ensures;
       many = ap length none;
-      same = cells_begun (on_each (nested c.args.room) c.args.each) c.args.plan.now (option_copied c.args.x) c.args.y.now c.collector-results.result.results c.args.self.now.state c.args.self.now.state none refl;
+      same = cells_begun (on_each (nested c.args.room) c.args.each) (source_of c.args.cells) c.collector-results.result.results c.args.self.now.state c.args.self.now.state none refl;
       onward = search rules;
     }
 
@@ -51,8 +52,9 @@ pub over_pairs-loop-k-preserved : goal.over_pairs-loop-k-preserved
 over_pairs-loop-k-preserved t c =
     let v = c.loop-k.invariant in
     let pushed = ap (λ (r : Collected). r.results) c.in_ok-collect.ensures.value in
-    let more = cells_more (on_each (nested c.args.room) c.args.each) c.args.plan.now (option_copied c.args.x) c.args.y.now c.loop-k.k c.in_ok-left.left c.in_ok-left.left c.in_ok-left.right c.loop-k.results.results c.collect.new.results.results c.in_ok-r.r
-    c.loop-k.self.state c.pair.new.self.state c.on_cells.new.self.state c.collect.new.self.state (omega arith) refl c.in_ok-left.ensures.value c.in_ok-r.ensures.gives pushed c.in_ok-left.ensures.kept.state c.in_ok-collect.ensures.kept.state in
+    let left = cells_from c.args.cells c.loop-k.k (omega arith) in
+    let more = cells_more (on_each (nested c.args.room) c.args.each) (source_of c.args.cells) c.loop-k.k (cells_at c.args.cells c.loop-k.k) c.in_ok-left.left c.in_ok-left.left c.in_ok-left.right c.loop-k.results.results c.collect.new.results.results c.in_ok-r.r
+    c.loop-k.self.state c.cells_at.new.self.state c.on_cells.new.self.state c.collect.new.self.state left refl c.in_ok-left.ensures.value c.in_ok-r.ensures.gives pushed c.in_ok-left.ensures.kept.state c.in_ok-collect.ensures.kept.state in
     record {
       frame = ap (λ (r : Collected). r.frame) c.in_ok-collect.ensures.value ∙ v.frame;
       many = ap length pushed ∙ (length_push c.loop-k.results.results c.in_ok-r.r ∙ ap (λ (n : ℕ). n + 1) v.many);
@@ -62,14 +64,15 @@ over_pairs-loop-k-preserved t c =
 
 pub over_pairs-returns-in_err-r-clause-gives : goal.over_pairs-returns-in_err-r-clause-gives
 over_pairs-returns-in_err-r-clause-gives t c =
-    let h = cells_err (on_each (nested c.args.room) c.args.each) c.args.plan.now (option_copied c.args.x) c.args.y.now c.loop-k.k c.in_ok-left.left c.in_ok-left.left c.in_ok-left.right c.loop-k.results.results c.in_err-r.field-0.0 c.on_cells.new.self
-    c.loop-k.self.state c.pair.new.self.state _ (omega arith) refl c.in_ok-left.ensures.value c.in_err-r.ensures.gives c.loop-k.invariant.same c.in_ok-left.ensures.kept.state in
+    let left = cells_from c.args.cells c.loop-k.k (omega arith) in
+    let h = cells_err (on_each (nested c.args.room) c.args.each) (source_of c.args.cells) c.loop-k.k (cells_at c.args.cells c.loop-k.k) c.in_ok-left.left c.in_ok-left.left c.in_ok-left.right c.loop-k.results.results c.in_err-r.field-0.0 c.on_cells.new.self
+    c.loop-k.self.state c.cells_at.new.self.state _ left refl c.in_ok-left.ensures.value c.in_err-r.ensures.gives c.loop-k.invariant.same c.in_ok-left.ensures.kept.state in
     search rules
 
 pub over_pairs-returns-clause-gives : goal.over_pairs-returns-clause-gives
 over_pairs-returns-clause-gives t c =
     let v = c.loop-k.invariant in
-    let end = cells_end (on_each (nested c.args.room) c.args.each) c.args.plan.now (option_copied c.args.x) c.args.y.now c.loop-k.k c.loop-k.results.frame c.loop-k.results.results c.loop-k.self.state (omega arith) v.frame in
+    let end = cells_end (on_each (nested c.args.room) c.args.each) (source_of c.args.cells) c.loop-k.k c.loop-k.results.frame c.loop-k.results.results c.loop-k.self.state (omega arith) v.frame in
     subst (Meets c.assembled.result c.assembled.new.self) (sym end ∙ v.same) c.assembled.ensures.gives
 
 pub times-loop-preserved : goal.times-loop-preserved

@@ -6,7 +6,8 @@ use Rattle.j_eval.specs.Applying.{does, nested}
 use Rattle.j_eval.specs.EachCell.{on_each}
 use Rattle.j_eval.specs.declared.by_rank.EachCell.{EachCell}
 use Rattle.j_eval.specs.declared.by_rank.EachCell.TheVariants.{Cell, Does}
-use Rattle.j_verbs.specs.ByRank.{source, on_pairs}
+use Rattle.j_verbs.specs.ByRank.{on_pairs}
+use Rattle.j_eval.specs.Sources.{source_of}
 use Rattle.j_eval.specs.Meets.{Onward}
 use Rattle.j_insert.specs.Insertion.{items_from_right}
 use Rattle.j_eval.specs.Insertion.{between}
@@ -45,8 +46,8 @@ decreases-on_whole l = level * l.room + weight l.each + 30
 abbrev pub decreases-by_cells : goal.decreases-by_cells
 decreases-by_cells l = level * l.room + weight l.each + 31
 
-abbrev pub decreases-by_plan : goal.decreases-by_plan
-decreases-by_plan l = level * l.room + weight l.each + 30
+abbrev pub decreases-by_source : goal.decreases-by_source
+decreases-by_source l = level * l.room + weight l.each + 30
 
 abbrev pub decreases-over_fills : goal.decreases-over_fills
 decreases-over_fills l = level * l.room + weight l.each + 29
@@ -96,6 +97,15 @@ decreases-insert_items l = level * l.room + step * operand_height (operand_of l.
 abbrev pub decreases-between : goal.decreases-between
 decreases-between l = level * l.room + step * operand_height (operand_of l.u.now) + 37
 
+abbrev pub decreases-prefix : goal.decreases-prefix
+decreases-prefix l = level * l.room + step * operand_height (operand_of l.u.now) + 46
+
+abbrev pub decreases-suffix : goal.decreases-suffix
+decreases-suffix l = level * l.room + step * operand_height (operand_of l.u.now) + 46
+
+abbrev pub decreases-on_pieces : goal.decreases-on_pieces
+decreases-on_pieces l = level * l.room + step * operand_height (operand_of l.u.now) + 45
+
 abbrev pub decreases-product : goal.decreases-product
 decreases-product l = level * l.room + step * max (operand_height (operand_of l.u.now)) (operand_height (operand_of l.v.now)) + 45
 
@@ -116,6 +126,12 @@ decreases-over l = level * l.room + step * max (operand_height (operand_of l.u.n
 
 abbrev pub decreases-over_left : goal.decreases-over_left
 decreases-over_left l = level * l.room + step * max (operand_height (operand_of l.u.now)) (operand_height (operand_of l.v.now)) + 39
+
+abbrev pub decreases-under : goal.decreases-under
+decreases-under l = level * l.room + step * max (operand_height (operand_of l.u.now)) (operand_height (operand_of l.v.now)) + 43
+
+abbrev pub decreases-undo : goal.decreases-undo
+decreases-undo l = level * l.room + 36
 
 abbrev pub decreases-bond : goal.decreases-bond
 decreases-bond l = level * l.room + step * max (operand_height (operand_of l.u.now)) (operand_height (operand_of l.v.now)) + 42
@@ -147,9 +163,9 @@ decreases-once l = level * l.room + step * operand_height (operand_of l.u.now) +
 -- the results so far, then what the other pairs give, is the whole
 abbrev pub invariant-over_pairs-loop-k : goal.invariant-over_pairs-loop-k
 invariant-over_pairs-loop-k l = record {
-  frame : l.results.frame ≡ l.plan.agreed.frame;
+  frame : l.results.frame ≡ (source_of l.cells).frame;
   many : length l.results.results ≡ l.k;
-  same : going (on_each (nested l.room) l.each) l.plan (option_copied l.x) l.y l.k l.results.results l.self.state ≡ on_pairs (on_each (nested l.room) l.each) (source l.plan (option_copied l.x) l.y) l.fn.self.state;
+  same : going (on_each (nested l.room) l.each) (source_of l.cells) l.k l.results.results l.self.state ≡ on_pairs (on_each (nested l.room) l.each) (source_of l.cells) l.fn.self.state;
   onward : Onward l.fn.self l.self;
 }
 
