@@ -36,6 +36,8 @@ pub fn run_in_memory(
 }
 
 #[cfg(test)]
+mod boxes;
+#[cfg(test)]
 mod chains;
 #[cfg(test)]
 mod faults;
@@ -45,6 +47,8 @@ mod limits;
 mod modifiers;
 #[cfg(test)]
 mod outside;
+#[cfg(test)]
+mod pieces;
 #[cfg(test)]
 mod runs;
 #[cfg(test)]

@@ -25,6 +25,9 @@ fn verbs_of_modifiers(rt: HostRuntime) -> Result<(), Fail> {
             ("2 +^:3 ] 1\n", "7\n"),
             ("+:^:2: 5\n", "20\n"),
             ("0&*^:_ ] 5\n", "0\n"),
+            ("-&.>: 3\n-&.<: 3\n", "_5\n_1\n"),
+            ("2 +&.+: 3\n1 -&.- 5 7\n", "5\n_4 _6\n"),
+            ("}.&.|. 1 2 3\n|.&.|: i. 2 3\n", "1 2\n2 1 0\n5 4 3\n"),
         ],
     )
 }
@@ -32,7 +35,7 @@ fn verbs_of_modifiers(rt: HostRuntime) -> Result<(), Fail> {
 #[test]
 fn faults_of_modifiers(rt: HostRuntime) -> Result<(), Fail> {
     let alloc = rt.alloc();
-    let rows: [(&str, &str, &str); 16] = [
+    let rows: [(&str, &str, &str); 26] = [
         ("", "1 (2&*) 5", "nonce"),
         ("", "'a' -&% 2", "quotient"),
         ("", "+\"'a'", "domain"),
@@ -49,6 +52,16 @@ fn faults_of_modifiers(rt: HostRuntime) -> Result<(), Fail> {
         ("", "+^:_1", "nonce"),
         ("", "+:^:] 'a'", "domain"),
         ("", "+:^:] _1", "nonce"),
+        ("", "+&.* 1", "domain"),
+        ("", "+&.2", "domain"),
+        ("h =: -\n", "+&.h 1", "domain"),
+        ("", "'a' +&.% 2", "quotient"),
+        ("", ">:&.+: 3", "quotient"),
+        ("", "+}", "nonce"),
+        ("", "1} 4 5", "nonce"),
+        ("", "+;.3", "nonce"),
+        ("", "+;.4", "domain"),
+        ("", "5;.4", "nonce"),
     ];
     fail(&rt, alloc, &rows)
 }

@@ -28,9 +28,14 @@ fn shown_for(byte: u8) -> [&'static [u8]; 3] {
         | b'$'
         | b','
         | b'#'
-        | b'{' => { [b"verb\n", b"verb\n", b"verb\n"] }
+        | b'{'
+        | b';' => { [b"verb\n", b"verb\n", b"verb\n"] }
         b'"' | b'&' | b'@' => [b"conjunction\n", b"|syntax error", b"adverb\n"],
         b'~' | b'/' => [b"adverb\n", b"adverb\n", b"verb\n"],
+        b'\\' => [b"adverb\n", b"adverb\n", b"verb\n"],
+        b'}' => [b"adverb\n", b"adverb\n", b"|nonce error"],
+        // behind a letter it is the empty box
+        b':' => [b"|nonce error", b"|nonce error", b"++\n||\n++\n"],
         // behind a letter it is the list of all characters
         b'.' => [b"conjunction\n", b"|nonce error", b"\0\x01\x02"],
         b'(' | b')' => [b"|syntax error", b"|syntax error", b"|syntax error"],

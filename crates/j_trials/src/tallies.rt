@@ -40,10 +40,35 @@ fn insertions(rt: HostRuntime) -> Result<(), Fail> {
 }
 
 #[test]
+fn insertions_of_shapes(rt: HostRuntime) -> Result<(), Fail> {
+    let alloc = rt.alloc();
+    let rows: [(&str, &str); 9] = [
+        ("-/ 5\n-/ , 5\n-/ 1 1 $ 5\n", "5\n5\n5\n"),
+        ("$ +/ 2 3 $ 1\n$ +/ 0 3 $ 1\n$ +/ 3 0 $ 1\n", "3\n3\n0\n"),
+        // one item is itself, of any kind
+        ("+/ 'a'\n,/ , 5\n", "a\n5\n"),
+        ("f =: +\nf/ 1 2 3\n", "6\n"),
+        ("(+ * -)/ 5 3\n", "16\n"),
+        ("{/ 0 _1 5\n", "5\n"),
+        // the left rank is the verb's, the right one infinite
+        ("1 2 ,/ 3 4\n", "1 2 3 4\n"),
+        ("1 2 +\"1/ i. 2 2\n", "1 3\n3 5\n"),
+        ("10 20 -/ 1 2 3\n", " 9  8  7\n19 18 17\n"),
+    ];
+    show(&rt, alloc, &rows)
+}
+
+#[test]
 fn refused_insertions(rt: HostRuntime) -> Result<(), Fail> {
     let alloc = rt.alloc();
-    let rows: [(&str, &str, &str); 7] = [
+    let rows: [(&str, &str, &str); 11] = [
         ("", ">./ i. 0", "domain"),
+        // an atom has one item
+        ("", "{/ 1 0 5", "index"),
+        ("", ",/ 0 3 $ 0", "domain"),
+        ("f =: +\n", "f/ i. 0", "domain"),
+        // the last two come first
+        ("", "^/ 10 30 2 _1", "quotient"),
         ("", "(+ -)/ i. 0", "domain"),
         ("", "5/ 1 2", "nonce"),
         ("", "+ . * 3", "nonce"),
