@@ -1,3 +1,5 @@
+NB. Modifiers make a verb of their operands: other ranks, one verb on what another gives,
+NB. an argument held fast, arguments swapped, and a verb repeated.
 3 4 +"0 1 ] 10 20
 10 -~ 3
 2&*^:3 ] 1

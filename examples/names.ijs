@@ -1,3 +1,5 @@
+NB. Names for verbs and nouns. A noun is taken when the name is read,
+NB. and a verb's name is looked up each time that it is applied.
 f =: - @: +
 2 f 3
 sum =: 100 + 20

@@ -1,4 +1,5 @@
 NB. Shapes, joining, taking and selecting.
+NB. These verbs go by the items and the axes of nouns, whatever their kind.
 2 3 $ i. 6
 $ 2 3 $ 'abc'
 (i. 2 2) , 9

@@ -1,4 +1,5 @@
 NB. Totals, sorting, searching, tables and digits.
+NB. A verb with / stands between items, or between all of one side and all of the other.
 +/ 3 1 4 1 5
 /:~ 3 1 4 1 5
 ~. 3 1 4 1 5
