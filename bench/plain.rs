@@ -1,5 +1,9 @@
-// What the scalar verbs do, as plain Rust does it: each result in a new vector, with a test where one may be out of range.
-// Arguments: a verb, or copy, what its right side is (list, atom, bits or letter; moved for a verb that moves items), how many items, how many times.
+// What verbs do, as plain Rust does it: each result in a new vector, with a test where one may be out of range.
+// Arguments: a verb, or copy, what it works on, how many items, how many times. For a scalar verb that is its right side (list, atom, bits or letter),
+// for others moved (items of a list), small, large or rows (searched and sorted), letters, folds, or boxes.
+use std::collections::{HashMap, HashSet};
+use std::fmt::Write as _;
+use std::hash::Hash;
 use std::hint::black_box;
 
 fn some<T>(n: usize, pairs: impl Iterator<Item = (i64, i64)>, f: impl Fn(i64, i64) -> Option<T>) -> Option<Vec<T>> {
@@ -93,11 +97,209 @@ fn moves(verb: &str, x: &[i64], places: &[i64], mask: &[u8]) {
     }
 }
 
+// A list with an item more, made anew each time.
+fn grown(x: &[i64], times: usize) {
+    let mut a = x.to_vec();
+    for _ in 0..times {
+        a = [&a[..], &[5]].concat();
+    }
+    drop(black_box(a));
+}
+
+// Items that are searched for, in order of y, and sorted.
+fn search<T: Copy + Eq + Hash + Ord>(verb: &str, x: &[T], y: &[T]) {
+    match verb {
+        "index" => {
+            let mut first = HashMap::with_capacity(x.len());
+            for (k, item) in x.iter().enumerate() {
+                first.entry(*item).or_insert(k as i64);
+            }
+            drop(black_box(y.iter().map(|item| first.get(item).copied().unwrap_or(x.len() as i64)).collect::<Vec<i64>>()));
+        }
+        "member" => {
+            let items: HashSet<T> = y.iter().copied().collect();
+            drop(black_box(x.iter().map(|item| u8::from(items.contains(item))).collect::<Vec<u8>>()));
+        }
+        "nub" => {
+            let mut seen = HashSet::with_capacity(x.len());
+            drop(black_box(x.iter().filter(|item| seen.insert(**item)).copied().collect::<Vec<T>>()));
+        }
+        "grade" => {
+            let mut places: Vec<usize> = (0..x.len()).collect();
+            places.sort_by_key(|k| x[*k]);
+            drop(black_box(places.iter().map(|k| *k as i64).collect::<Vec<i64>>()));
+        }
+        _ => {
+            let mut out = x.to_vec();
+            out.sort();
+            drop(black_box(out));
+        }
+    }
+}
+
+fn searches(verb: &str, side: &str, n: usize, times: usize) {
+    let small: Vec<i64> = (0..n as i64).map(|i| i * 7919 % 1000).collect();
+    let large: Vec<i64> = (0..n as i64).map(|i| (12345 + 1103515245 * i) % 2147483648).collect();
+    let rows: Vec<[i64; 2]> = small.iter().enumerate().map(|(i, x)| [*x, i as i64 % 100]).collect();
+    let (mut a, mut b, mut c) = (small.clone(), large.clone(), rows.clone());
+    a.reverse();
+    b.reverse();
+    c.reverse();
+    for _ in 0..times {
+        match side {
+            "small" => search(verb, black_box(&small), &a),
+            "large" => search(verb, black_box(&large), &b),
+            _ => search(verb, black_box(&rows), &c),
+        }
+    }
+}
+
+// The place of each letter in a short text.
+fn letters(n: usize, times: usize) {
+    let text: Vec<u8> = (0..n).map(|i| 97 + (i * 7919 % 26) as u8).collect();
+    for _ in 0..times {
+        let mut place = [3i64; 256];
+        for (k, b) in b"abc".iter().enumerate() {
+            place[usize::from(*b)] = k as i64;
+        }
+        drop(black_box(black_box(&text).iter().map(|b| place[usize::from(*b)]).collect::<Vec<i64>>()));
+    }
+}
+
+// Sums and products that stay in range, or nothing.
+fn total(xs: impl DoubleEndedIterator<Item = i64>) -> Option<i64> {
+    xs.rev().try_fold(0i64, |sum, x| x.checked_add(sum))
+}
+
+// The sums of the columns of a table of so many columns, from the last row.
+fn columns(x: &[i64], width: usize) -> Option<Vec<i64>> {
+    let mut sums = vec![0i64; width];
+    for row in x.chunks_exact(width).rev() {
+        for (sum, x) in sums.iter_mut().zip(row) {
+            *sum = x.checked_add(*sum)?;
+        }
+    }
+    Some(sums)
+}
+
+// The product of a square table with itself.
+fn product(x: &[i64], side: usize) -> Option<Vec<i64>> {
+    let mut out = Vec::with_capacity(side * side);
+    for row in x.chunks_exact(side) {
+        let mut sums = vec![0i64; side];
+        for (k, a) in row.iter().enumerate() {
+            for (sum, b) in sums.iter_mut().zip(&x[k * side..(k + 1) * side]) {
+                *sum = sum.checked_add(a.checked_mul(*b)?)?;
+            }
+        }
+        out.extend(sums);
+    }
+    Some(out)
+}
+
+// The last three decimal digits of each number.
+fn digits(x: &[i64]) -> Vec<i64> {
+    x.iter().flat_map(|x| [x.div_euclid(100).rem_euclid(10), x.div_euclid(10).rem_euclid(10), x.rem_euclid(10)]).collect()
+}
+
+// The number of each three decimal digits.
+fn value(x: &[i64]) -> Option<Vec<i64>> {
+    x.chunks_exact(3).map(|row| row.iter().try_fold(0i64, |sum, d| sum.checked_mul(10)?.checked_add(*d))).collect()
+}
+
+fn folds(verb: &str, n: usize, times: usize) {
+    let count = if verb == "product" { n * n } else { n };
+    let x: Vec<i64> = (0..count as i64).map(|i| 10 + i * 7919 % 90).collect();
+    let side = (n as f64).sqrt() as usize;
+    let parts = digits(&x);
+    for _ in 0..times {
+        let x = black_box(&x[..]);
+        match verb {
+            "sum" => drop(black_box(total(x.iter().copied()))),
+            "columns" => drop(black_box(columns(x, side))),
+            "lines" => drop(black_box(x.chunks_exact(side).map(|row| total(row.iter().copied())).collect::<Option<Vec<i64>>>())),
+            "outer" => drop(black_box((0..n as i64).flat_map(|a| (0..n as i64).map(move |b| a.checked_mul(b))).collect::<Option<Vec<i64>>>())),
+            "product" => drop(black_box(product(x, n))),
+            "digits" => drop(black_box(digits(x))),
+            _ => drop(black_box(value(black_box(&parts)))),
+        }
+    }
+}
+
+// The grid of one line of boxed rows of three numbers, as bytes.
+fn shown(rows: &[Vec<i64>]) -> String {
+    let texts: Vec<String> = rows.iter().map(|row| format!("{} {} {}", row[0], row[1], row[2])).collect();
+    let mut bar = String::new();
+    for text in &texts {
+        bar.push('+');
+        bar.extend(std::iter::repeat('-').take(text.len()));
+    }
+    bar.push_str("+\n");
+    let mut out = bar.clone();
+    for text in &texts {
+        out.push('|');
+        out.push_str(text);
+    }
+    out.push_str("|\n");
+    out.push_str(&bar);
+    out
+}
+
+// The words of a text of letters, blanks and commas.
+fn words(text: &str) -> Vec<String> {
+    let mut out = Vec::new();
+    let mut word = String::new();
+    for c in text.chars() {
+        if c.is_ascii_alphabetic() {
+            word.push(c);
+            continue;
+        }
+        if !word.is_empty() {
+            out.push(std::mem::take(&mut word));
+        }
+        if c != ' ' {
+            out.push(c.to_string());
+        }
+    }
+    if !word.is_empty() {
+        out.push(word);
+    }
+    out
+}
+
+fn boxes(verb: &str, n: usize, times: usize) {
+    let rows: Vec<i64> = (0..3 * n as i64).map(|i| 10 + i * 7919 % 90).collect();
+    let boxed: Vec<Vec<i64>> = rows.chunks_exact(3).map(<[i64]>::to_vec).collect();
+    let text: String = "word and another, ".chars().cycle().take(n).collect();
+    for _ in 0..times {
+        match verb {
+            "boxes" => drop(black_box(black_box(&rows).chunks_exact(3).map(<[i64]>::to_vec).collect::<Vec<Vec<i64>>>())),
+            "shown" => print!("{}", shown(black_box(&boxed))),
+            "razed" => drop(black_box(black_box(&boxed).concat())),
+            "words" => drop(black_box(words(black_box(&text)))),
+            _ => {
+                let mut out = String::new();
+                for (k, x) in black_box(&rows)[..n].iter().enumerate() {
+                    write!(out, "{}{x}", if k > 0 { " " } else { "" }).unwrap();
+                }
+                drop(black_box(out));
+            }
+        }
+    }
+}
+
 fn main() {
     let words: Vec<String> = std::env::args().collect();
     let (verb, side) = (words[1].as_str(), words[2].as_str());
     let n: usize = words[3].parse().unwrap();
     let times: usize = words[4].parse().unwrap();
+    match side {
+        "small" | "large" | "rows" => return searches(verb, side, n, times),
+        "letters" => return letters(n, times),
+        "folds" => return folds(verb, n, times),
+        "boxes" => return boxes(verb, n, times),
+        _ => {}
+    }
     let x: Vec<i64> = (0..n as i64).map(|i| 10 + i * 7919 % 90).collect();
     let y: Vec<i64> = x.iter().map(|x| 1 + x).collect();
     let z: Vec<i64> = x.iter().zip(&y).map(|(x, y)| x * y * 7).collect();
@@ -106,6 +308,9 @@ fn main() {
     let places = scattered(n);
     let (left, divides) = (if verb == "%" { &z } else { &x }, verb == "|");
     let atom = black_box(7);
+    if verb == "grow" {
+        return grown(&x, times);
+    }
     for _ in 0..times {
         match side {
             "list" if divides => numbers(verb, n, y.iter().copied().zip(z.iter().copied())),
