@@ -1,5 +1,0 @@
-pub mod Obliques
-pub mod Keys
-pub mod Cuts
-pub mod Kept
-pub mod Rows
