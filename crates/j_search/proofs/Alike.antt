@@ -77,7 +77,7 @@ passes_from : (p : ℕ → Bool) (a n d : ℕ) → get_or (filter p (range_with_
 passes_from p a zero d l = absurd (omega arith)
 passes_from p a (suc n) d l = kept_passes (p a) p a n d (filter p (range_with_len (a + 1) n)) refl (passes_from p (a + 1) n d) l
 
-first_passes : (p : ℕ → Bool) (n : ℕ) → first_of p n < n → p (first_of p n) ≡ true
+pub first_passes : (p : ℕ → Bool) (n : ℕ) → first_of p n < n → p (first_of p n) ≡ true
 first_passes p n h = passes_from p 0 n n h
 
 kept_before : (b : Bool) (p : ℕ → Bool) (a i d : ℕ) (rest : List ℕ) → p a ≡ b → a ≤ i → p i ≡ true → (a + 1 ≤ i → get_or rest 0 d ≤ i) → get_or (keep b a rest) 0 d ≤ i
@@ -92,7 +92,7 @@ before_from p a zero i d l u here = absurd (omega arith)
 before_from p a (suc n) i d l u here =
     kept_before (p a) p a i d (filter p (range_with_len (a + 1) n)) refl l here (λ m. before_from p (a + 1) n i d m (omega arith) here)
 
-first_before : (p : ℕ → Bool) (n i : ℕ) → i < n → p i ≡ true → first_of p n ≤ i
+pub first_before : (p : ℕ → Bool) (n i : ℕ) → i < n → p i ≡ true → first_of p n ≤ i
 first_before p n i h here = before_from p 0 n i n (omega arith) (omega arith) here
 
 same_answers : (s t : Bool) → (s ≡ true → t ≡ true) → (t ≡ true → s ≡ true) → s ≡ t

@@ -22,3 +22,4 @@ pub use rows::{
     worked_amendments, worked_catalogues, worked_copies, worked_counting, worked_index,
     worked_indices,
 };
+pub use selecting::cells_at;
