@@ -15,13 +15,13 @@ use Rattle.j_definitions.specs.declared.Fault.{Fault}
 use Rattle.j_noun.specs.declared.refusal.Refusal.{Refusal}
 use Rattle.j_noun.specs.declared.refusal.Refusal.TheVariants.{Fault as RefusedFault, NoMemory}
 use Rattle.j_noun.specs.Refused.{OrWantingAs}
-use Rattle.j_select.specs.Numbers.{whole_numbers, magnitudes, indices_in, and_then}
-use Rattle.j_select.specs.Selecting.{runs_at, cells_at, items_indexed}
-use Rattle.j_select.specs.Indexing.{from_numbers}
+use Rattle.j_indices.specs.Numbers.{whole_numbers, magnitudes, indices_in, and_then}
+use Rattle.j_indices.specs.Selecting.{runs_at, cells_at, items_indexed}
+use Rattle.j_indices.specs.Indexing.{from_numbers}
 use Rattle.j_select.specs.Amending.{all_places, taken, places_taken}
-use Rattle.j_select.proofs.Indexed.{numbers_some}
-use Rattle.j_select.proofs.Chosen.{map_map}
-use Rattle.j_select.proofs.Readings.{whole_wholes}
+use Rattle.j_indices.proofs.Indexed.{numbers_some}
+use Rattle.j_indices.proofs.Chosen.{map_map}
+use Rattle.j_indices.proofs.Readings.{whole_wholes}
 
 one_at : (f : ℕ → Atom) (n k : ℕ) → k < n → take 1 (drop (k * 1) (map f (range_with_len 0 n))) ≡ f k ∷ []
 one_at f n k h =

@@ -12,11 +12,11 @@ use Rattle.j_definitions.specs.declared.Fault.TheVariants.{Limit}
 use Rattle.j_definitions.specs.declared.Kind.TheVariants.{Boxed}
 use Rattle.j_definitions.specs.declared.Kind.{Kind}
 use Rattle.j_rank.proofs.Products.{product_append}
-use Rattle.j_select.specs.Choices.{choices}
+use Rattle.j_indices.specs.Choices.{choices}
 use Rattle.j_select.specs.Listed.{listed, kind_of_some}
 use Rattle.j_select.specs.Catalogue.{kind_chosen, boxes_of_choices, catalogue_of}
-use Rattle.j_select.specs.Numbers.{and_then}
-use Rattle.j_select.proofs.Chosen.{map_map, map-flat_map, length-choices, flat_map-map}
+use Rattle.j_indices.specs.Numbers.{and_then}
+use Rattle.j_indices.proofs.Chosen.{map_map, map-flat_map, length-choices, flat_map-map}
 
 -- the lists of all choices that begin with these elements
 abbrev pub lists_from : {X : Type 0} → Kind → (X → Atom) → List X → List (List X) → List Array

@@ -13,10 +13,10 @@ use Rattle.j_noun.specs.declared.refusal.Refusal.{Refusal}
 use Rattle.j_noun.specs.declared.refusal.Refusal.TheVariants.{Fault as RefusedFault, NoMemory}
 use Rattle.j_noun.specs.Refused.{OrWantingAs}
 use Rattle.j_rank.specs.Assembly.{with_rank, greater_axes, greatest_axes, greatest_rank, common_shape, assemble}
-use Rattle.j_select.specs.Numbers.{and_then}
-use Rattle.j_select.specs.Indexing.{along_axes, from_at}
+use Rattle.j_indices.specs.Numbers.{and_then}
+use Rattle.j_indices.specs.Indexing.{along_axes, from_at}
 use Rattle.j_select.specs.Amending.{outline, outline_along, outline_at, axes_taken, taken}
-use Rattle.j_select.proofs.Indices.{GivesFirst, gives_fault}
+use Rattle.j_indices.proofs.Indices.{GivesFirst, gives_fault}
 
 abbrev pub shape_of_cells : List Array → Result (List ℕ) Fault
 shape_of_cells cells = Ok (common_shape cells)

@@ -9,8 +9,8 @@ use Rattle.j_definitions.specs.declared.Kind.TheVariants.{Number, Character, Box
 use Rattle.j_definitions.specs.declared.Fault.{Fault}
 use Rattle.j_definitions.specs.declared.Fault.TheVariants.{Domain, Length, Nonce}
 use Rattle.j_rank.specs.Assembly.{common_shape, assemble, joined_kind}
-use Rattle.j_select.specs.Indexing.{index_fault, from_at, from_list}
-use Rattle.j_select.specs.Numbers.{whole_numbers, magnitudes, and_then}
+use Rattle.j_indices.specs.Indexing.{index_fault, from_at, from_list}
+use Rattle.j_indices.specs.Numbers.{whole_numbers, magnitudes, and_then}
 
 -- the places of a shape as a noun: 1, 2, ..
 abbrev pub all_places : List ℕ → Array

@@ -8,8 +8,8 @@ use Rattle.j_definitions.specs.declared.Kind.TheVariants.{Number, Character, Box
 use Rattle.j_definitions.specs.declared.Fault.{Fault}
 use Rattle.j_definitions.specs.declared.Fault.TheVariants.{Domain}
 use Rattle.j_rank.specs.Assembly.{joined_kind}
-use Rattle.j_select.specs.Choices.{choices}
-use Rattle.j_select.specs.Numbers.{and_then}
+use Rattle.j_indices.specs.Choices.{choices}
+use Rattle.j_indices.specs.Numbers.{and_then}
 
 -- the kind of an empty list of choices: characters of no characters, else numbers
 abbrev pub kind_of_none : Kind → Kind

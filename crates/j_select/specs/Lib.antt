@@ -1,9 +1,3 @@
-pub mod Numbers
-pub mod Choices
-pub mod Counting
-pub mod Seen
-pub mod Selecting
-pub mod Indexing
 pub mod Catalogue
 pub mod Amending
 pub mod Putting

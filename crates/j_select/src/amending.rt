@@ -7,12 +7,12 @@ ghost use Rattle.j_rank.specs.Assembly.{joined_kind};
 ghost use Rattle.j_rank.specs.Joined.{Joins};
 ghost use Rattle.j_select.specs.Amending.{places_taken, amended, kinds_among, amend};
 ghost use Rattle.j_select.specs.Joining.{two_kinds};
-ghost use Rattle.j_select.specs.Numbers.{whole_numbers, magnitudes};
+ghost use Rattle.j_indices.specs.Numbers.{whole_numbers, magnitudes};
 ghost use Rattle.j_definitions.specs.declared.Kind.TheVariants.{Number as NumberKind};
 
-use crate::numbers::{Numbers, Whole, numbers_of, places_of};
 use crate::putting::amended_atoms;
 use crate::reaching::{all_places, axes_taken, taken};
+use j_indices::{Numbers, Whole, numbers_of, places_of};
 use j_noun::{Fault, Kind, NoMemory, Noun, Pool, Refusal, View};
 use j_rank::{has_no_atoms, is_same};
 

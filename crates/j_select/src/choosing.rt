@@ -9,12 +9,12 @@ ghost use Rattle.j_definitions.specs.declared.Fault.TheVariants.{Domain as Domai
 ghost use Rattle.j_noun.specs.Refused.{OrWanting};
 ghost use Rattle.j_rank.specs.Joined.{Joins};
 ghost use Rattle.j_select.specs.Catalogue.{kind_of_none, boxes_of_choices, catalogue_of, catalogue};
-ghost use Rattle.j_select.specs.Choices.{choices};
+ghost use Rattle.j_indices.specs.Choices.{choices};
 ghost use Rattle.j_select.specs.Listed.{listed, kind_of_some};
 
-use crate::axes::frame_of;
 use crate::putting::{bytes_of, nouns_of, wholes_of};
 use crate::reaching::index_nouns;
+use j_indices::frame_of;
 use j_noun::{Atoms, Fault, Kind, NoMemory, Noun, Pool, Refusal, Shape, boxes};
 use j_rank::{Stored, copied, joined_kind, shape_of, size_within};
 

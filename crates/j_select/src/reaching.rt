@@ -5,13 +5,11 @@ ghost use Rattle.j_definitions.specs.Cells.{in_order};
 ghost use Rattle.j_definitions.specs.Limits.{limited};
 ghost use Rattle.j_noun.specs.Refused.{OrWanting, OrWantingAs};
 ghost use Rattle.j_rank.specs.Assembly.{common_shape, assemble};
-ghost use Rattle.j_select.specs.Indexing.{from_at};
-ghost use Rattle.j_select.specs.Numbers.{and_then};
+ghost use Rattle.j_indices.specs.Indexing.{from_at};
+ghost use Rattle.j_indices.specs.Numbers.{and_then};
 ghost use Rattle.j_select.specs.Amending.{all_places, outline, outline_along, outline_at, axes_of_fill, axes_taken, taken};
 
-use crate::axes::{frame_of, from_box, index_fault, nouns_of};
-use crate::indexing::from_list;
-use crate::selecting::behind;
+use j_indices::{behind, frame_of, from_box, from_list, index_fault, nouns_of};
 use j_noun::{Atoms, Fault, Kind, NoMemory, Noun, Pool, Refusal, Shape, View, boxes};
 use j_rank::{
     Collector, common_shape, copied, extended, fills, has_no_atoms, shape_of, size_within,

@@ -10,7 +10,7 @@ use Rattle.j_leaves.specs.declared.primitive.Primitive.{Primitive}
 use Rattle.j_leaves.specs.declared.ranks.Ranks.{Ranks}
 use Rattle.j_noun.specs.Refused.{OrWanting}
 use Rattle.j_noun.specs.declared.ranks.Rank.TheVariants as rank
-use Rattle.j_select.specs.Indexing.{from_list}
+use Rattle.j_indices.specs.Indexing.{from_list}
 use Rattle.j_verbs.specs.declared.calls.Dyad.TheVariants.{From}
 use Rattle.j_verbs.proofs.FromCells.{from_by_cells}
 use Rattle.j_noun.specs.declared.refusal.Refusal.{Refusal}

@@ -28,9 +28,9 @@ use Rattle.j_rank.proofs.Joining.{same_self}
 use Rattle.j_rank.proofs.Paddings.{padded_same, part_many}
 use Rattle.j_rank.proofs.Single.{whole_cell}
 use Rattle.j_rank.proofs.Widest.{with_rank_same}
-use Rattle.j_select.specs.Indexing.{from_at, from_list, from_numbers}
-use Rattle.j_select.specs.Numbers.{and_then, index_in, indices_in, whole_numbers}
-use Rattle.j_select.specs.Selecting.{cells_at, items_indexed, runs_at}
+use Rattle.j_indices.specs.Indexing.{from_at, from_list, from_numbers}
+use Rattle.j_indices.specs.Numbers.{and_then, index_in, indices_in, whole_numbers}
+use Rattle.j_indices.specs.Selecting.{cells_at, items_indexed, runs_at}
 use Rattle.j_verbs.specs.ByRank.{Doing, Cells, planned_for, pair, with_left, on_pair, on_pairs, fills, fill_result, zero_atom, on_fills, source, by_source, by_plan, by_ranks}
 use Rattle.j_verbs.specs.State.{State, Outcome, then_do, else_do, pure, or_fault}
 use Rattle.j_verbs.proofs.Sources.{none_met, some_met}

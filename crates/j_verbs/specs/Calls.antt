@@ -9,9 +9,9 @@ use Rattle.j_places.specs.AxisPlaces as places
 use Rattle.j_reshaping.specs.Reshaping as reshaping
 use Rattle.j_reshaping.specs.Axes as axes
 use Rattle.j_joining.specs.Joining as joining
-use Rattle.j_select.specs.Counting as counting
-use Rattle.j_select.specs.Selecting as selecting
-use Rattle.j_select.specs.Indexing as indexing
+use Rattle.j_indices.specs.Counting as counting
+use Rattle.j_indices.specs.Selecting as selecting
+use Rattle.j_indices.specs.Indexing as indexing
 use Rattle.j_select.specs.Catalogue as catalogue
 use Rattle.j_search.specs.Matching as matching
 use Rattle.j_search.specs.Order as order

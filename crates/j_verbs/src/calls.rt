@@ -5,9 +5,9 @@ ghost use Rattle.j_joining.specs.Joining as joining;
 ghost use Rattle.j_places.specs.AxisPlaces as places;
 ghost use Rattle.j_reshaping.specs.Axes as axes;
 ghost use Rattle.j_reshaping.specs.Reshaping as reshaping;
-ghost use Rattle.j_select.specs.Counting as counting;
-ghost use Rattle.j_select.specs.Indexing as indexing;
-ghost use Rattle.j_select.specs.Selecting as selecting;
+ghost use Rattle.j_indices.specs.Counting as counting;
+ghost use Rattle.j_indices.specs.Indexing as indexing;
+ghost use Rattle.j_indices.specs.Selecting as selecting;
 ghost use Rattle.j_verbs.specs.Calls.{of_one, of_two, up_to};
 
 use crate::word_forms::word_forms;

@@ -1,5 +1,5 @@
 use Rattle.std.proofs.Common.{◌≡◌, map, take}
-use Rattle.j_select.specs.Numbers.{magnitudes}
+use Rattle.j_indices.specs.Numbers.{magnitudes}
 use Rattle.j_select.proofs.amending.magnitudes_of.Given as goal
 
 abbrev pub invariant-loop-n : goal.invariant-loop-n

@@ -8,7 +8,7 @@ use Rattle.j_definitions.specs.Array.{tally}
 use Rattle.j_definitions.specs.declared.Fault.{Fault}
 use Rattle.j_definitions.proofs.Limits.{noun_few}
 use Rattle.j_noun.specs.Refused.{OrWantingAs}
-use Rattle.j_select.specs.Numbers.{indices_in}
+use Rattle.j_indices.specs.Numbers.{indices_in}
 use Rattle.j_select.proofs.ListPlaces.{list_taken, list_stopped}
 use Rattle.j_select.proofs.amending.places_in_list.Goals as goal
 

@@ -2,8 +2,8 @@ use Rattle.std.proofs.Common.{◌∙◌, ap, sym, length, pos, List, ℤ, Result
 use Rattle.std.proofs.lemmas.List.{length-map}
 use Rattle.j_definitions.specs.Array.{number}
 use Rattle.j_definitions.specs.declared.Fault.{Fault}
-use Rattle.j_select.specs.Numbers.{whole_numbers}
-use Rattle.j_select.proofs.Readings.{whole_wholes, whole_bits}
+use Rattle.j_indices.specs.Numbers.{whole_numbers}
+use Rattle.j_indices.proofs.Readings.{whole_wholes, whole_bits}
 use Rattle.j_select.proofs.ListPlaces.{map_same}
 use Rattle.j_select.proofs.amending.places_taken.Goals as goal
 

@@ -1,7 +1,7 @@
 use Rattle.std.proofs.Common.{◌≡◌, ◌∷◌, [], ◌∙◌, ◌++◌, ap, sym, arith, map, List}
 use Rattle.std.specs.declared.alloc.Global.{Global}
 use Rattle.std.specs.declared.vec.Vec.{Vec}
-use Rattle.j_select.proofs.Chosen.{rest_of, at_first}
+use Rattle.j_indices.proofs.Chosen.{rest_of, at_first}
 use Rattle.j_select.proofs.Listings.{flat_more, lists_all, lists_from}
 use Rattle.j_select.proofs.choosing.+append_choices.Goals as goal
 

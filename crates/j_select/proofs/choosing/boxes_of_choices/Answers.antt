@@ -2,10 +2,10 @@ use Rattle.std.proofs.Common.{◌∙◌, ap, map, refl}
 use Rattle.j_definitions.specs.Array.{Array, boxed}
 use Rattle.j_noun.specs.declared.noun.Atoms.TheVariants.{Boxes}
 use Rattle.j_select.specs.Catalogue.{boxes_of_choices}
-use Rattle.j_select.specs.Choices.{choices}
+use Rattle.j_indices.specs.Choices.{choices}
 use Rattle.j_select.specs.Listed.{listed}
-use Rattle.j_select.proofs.Answering.{answers}
-use Rattle.j_select.proofs.Chosen.{map_map}
+use Rattle.j_indices.proofs.Answering.{answers}
+use Rattle.j_indices.proofs.Chosen.{map_map}
 use Rattle.j_select.proofs.choosing.boxes_of_choices.Goals as goal
 
 pub returns-then-eq : goal.returns-then-eq

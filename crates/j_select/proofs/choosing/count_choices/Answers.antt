@@ -1,7 +1,7 @@
 use Rattle.std.proofs.Common.{◌≡◌, ◌<◌, ◌≤◌, ◌∙◌, ap, sym, subst, arith, map, length, ℕ, MatchOption}
 use Rattle.std.proofs.lemmas.List.{take_all}
 use Rattle.j_definitions.specs.Array.{Array, product}
-use Rattle.j_select.specs.Choices.{choices}
+use Rattle.j_indices.specs.Choices.{choices}
 use Rattle.j_select.proofs.Listings.{choices_size}
 use Rattle.j_select.proofs.choosing.count_choices.Goals as goal
 

@@ -2,7 +2,7 @@ use Rattle.std.proofs.Common.{◌≡◌, ◌∙◌, ap, map, rules, [], List}
 use Rattle.std.specs.declared.alloc.Global.{Global}
 use Rattle.std.specs.declared.vec.Vec.{Vec}
 use Rattle.j_definitions.specs.Array.{Array}
-use Rattle.j_select.proofs.Chosen.{map_map}
+use Rattle.j_indices.proofs.Chosen.{map_map}
 use Rattle.j_select.proofs.Listings.{chosen_all}
 use Rattle.j_select.proofs.choosing.lists_chosen.Goals as goal
 

@@ -3,7 +3,7 @@ use Prim.Native.Nat.{suc}
 use Rattle.std.proofs.lemmas.Int.{to_z_pos}
 use Rattle.std.proofs.lemmas.List.FromFn.{length-map-range_with_len}
 use Rattle.j_definitions.specs.Array.{number, product}
-use Rattle.j_select.proofs.Chosen.{placed_more}
+use Rattle.j_indices.proofs.Chosen.{placed_more}
 use Rattle.j_select.proofs.reaching.all_places.Goals as goal
 
 pub loop-k-preserved : goal.loop-k-preserved

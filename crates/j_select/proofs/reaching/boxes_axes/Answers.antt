@@ -8,9 +8,9 @@ use Rattle.j_noun.specs.declared.refusal.Refusal.{Refusal}
 use Rattle.j_noun.specs.Refused.{OrWantingAs}
 use Rattle.j_rank.specs.Assembly.{common_shape}
 use Rattle.j_select.specs.Amending.{outline_at}
-use Rattle.j_select.specs.Numbers.{and_then}
-use Rattle.j_select.proofs.Answering.{refused}
-use Rattle.j_select.proofs.Chosen.{map_map}
+use Rattle.j_indices.specs.Numbers.{and_then}
+use Rattle.j_indices.proofs.Answering.{refused}
+use Rattle.j_indices.proofs.Chosen.{map_map}
 use Rattle.j_select.proofs.Reached.{alone, shape_of_cells, common_alone}
 use Rattle.j_select.proofs.reaching.boxes_axes.Goals as goal
 

@@ -7,11 +7,11 @@ use Rattle.j_noun.specs.declared.refusal.Refusal.{Refusal}
 use Rattle.j_noun.specs.Refused.{OrWanting, OrWantingAs}
 use Rattle.j_rank.specs.Assembly.{assemble}
 use Rattle.j_rank.specs.Collected.{Collected}
-use Rattle.j_select.specs.Indexing.{from_at, along_axes}
-use Rattle.j_select.specs.Numbers.{and_then}
-use Rattle.j_select.proofs.Answering.{refused}
-use Rattle.j_select.proofs.Chosen.{map_map}
-use Rattle.j_select.proofs.Indices.{gives_more, gives_all}
+use Rattle.j_indices.specs.Indexing.{from_at, along_axes}
+use Rattle.j_indices.specs.Numbers.{and_then}
+use Rattle.j_indices.proofs.Answering.{refused}
+use Rattle.j_indices.proofs.Chosen.{map_map}
+use Rattle.j_indices.proofs.Indices.{gives_more, gives_all}
 use Rattle.j_select.proofs.Reached.{cell_again, gives_refused}
 use Rattle.j_select.proofs.reaching.boxes_taken.Goals as goal
 

@@ -1,7 +1,7 @@
 use Rattle.std.proofs.Common.{◌≡◌, length}
 use Rattle.j_definitions.specs.Array.{Array, boxed}
-use Rattle.j_select.specs.Indexing.{from_at}
-use Rattle.j_select.proofs.Indices.{GivesFirst}
+use Rattle.j_indices.specs.Indexing.{from_at}
+use Rattle.j_indices.proofs.Indices.{GivesFirst}
 use Rattle.j_select.proofs.reaching.boxes_taken.Given as goal
 
 abbrev pub invariant-loop-noun : goal.invariant-loop-noun

@@ -1,8 +1,8 @@
 use Rattle.std.proofs.Common.{◌≡◌, ◌∙◌, ap, sym, subst, map, pos, ℕ, ℤ, List, IfOk}
 use Rattle.j_definitions.specs.Array.{Array, number, atom_array, opened}
 use Rattle.j_definitions.specs.declared.Kind.TheVariants.{Number}
-use Rattle.j_select.proofs.Chosen.{map_map}
-use Rattle.j_select.proofs.BoxIndices.{opened_boxes}
+use Rattle.j_indices.proofs.Chosen.{map_map}
+use Rattle.j_indices.proofs.BoxIndices.{opened_boxes}
 use Rattle.j_select.proofs.reaching.index_nouns.Goals as goal
 
 abbrev single : ℤ → Array

@@ -2,7 +2,7 @@ use Rattle.std.proofs.Common.{◌≡◌, ◌≤◌, ◌++◌, ◌∙◌, ap, rul
 use Rattle.std.specs.List.{All, flat_map}
 use Rattle.j_definitions.specs.Array.{Array}
 use Rattle.j_definitions.specs.declared.Fault.{Fault}
-use Rattle.j_select.specs.Indexing.{index_fault}
+use Rattle.j_indices.specs.Indexing.{index_fault}
 use Rattle.j_select.specs.Amending.{outlined}
 use Rattle.j_select.proofs.Reached.{outline_within}
 use Rattle.j_select.proofs.reaching.outline_along.Goals as goal

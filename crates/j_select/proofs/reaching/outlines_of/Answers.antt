@@ -5,7 +5,7 @@ use Rattle.std.proofs.lemmas.List.{map-append}
 use Rattle.j_definitions.specs.Array.{Array, boxed, opened}
 use Rattle.j_definitions.specs.declared.Fault.{Fault}
 use Rattle.j_select.specs.Amending.{outline, outline_along, outline_at}
-use Rattle.j_select.proofs.Indices.{gives_more, gives_all}
+use Rattle.j_indices.proofs.Indices.{gives_more, gives_all}
 use Rattle.j_select.proofs.Reached.{alone, box_again, gives_refused}
 use Rattle.j_select.proofs.reaching.outlines_of.Goals as goal
 

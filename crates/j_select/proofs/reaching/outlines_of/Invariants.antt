@@ -1,7 +1,7 @@
 use Rattle.std.proofs.Common.{map}
 use Rattle.j_definitions.specs.Array.{Array, boxed}
 use Rattle.j_select.specs.Amending.{outline_at}
-use Rattle.j_select.proofs.Indices.{GivesFirst}
+use Rattle.j_indices.proofs.Indices.{GivesFirst}
 use Rattle.j_select.proofs.Reached.{alone}
 use Rattle.j_select.proofs.reaching.outlines_of.Given as goal
 

@@ -5,8 +5,8 @@ use Rattle.j_definitions.specs.Array.{boxed}
 use Rattle.j_definitions.specs.Cells.{in_order}
 use Rattle.j_noun.specs.Refused.{OrWanting}
 use Rattle.j_rank.specs.Assembly.{assemble}
-use Rattle.j_select.specs.Indexing.{from_at}
-use Rattle.j_select.specs.Numbers.{and_then}
+use Rattle.j_indices.specs.Indexing.{from_at}
+use Rattle.j_indices.specs.Numbers.{and_then}
 use Rattle.j_select.proofs.Reached.{taken_of_boxes}
 use Rattle.j_select.proofs.reaching.taken.Goals as goal
 

@@ -1,0 +1,11 @@
+pub mod Readings
+pub mod Counts
+pub mod Indices
+pub mod Chosen
+pub mod Answering
+pub mod Runs
+pub mod Copies
+pub mod Indexed
+pub mod KindTests
+pub mod Taken
+pub mod BoxIndices

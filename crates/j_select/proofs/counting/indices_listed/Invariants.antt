@@ -1,6 +1,0 @@
-use Rattle.std.proofs.Common.{◌≡◌, map, pos}
-use Rattle.j_select.proofs.Counts.{places_before}
-use Rattle.j_select.proofs.counting.indices_listed.Given as goal
-
-abbrev pub invariant-loop-k : goal.invariant-loop-k
-invariant-loop-k g l = l.out.items ≡ map (λ k. pos k) (places_before g.N.Whole.value l.counts l.k)
