@@ -1,0 +1,6 @@
+pub mod Alike
+pub mod Rising
+pub mod Linked
+pub mod Diagonals
+pub mod Marks
+pub mod Lists

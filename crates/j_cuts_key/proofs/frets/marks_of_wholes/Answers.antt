@@ -1,0 +1,23 @@
+use Rattle.std.proofs.Common.{◌≡◌, ◌∙◌, ap, arith, sym, pos, get_or, rules, ℕ, ℤ, Bool, Err}
+use Rattle.j_definitions.specs.Array.{number, Atom}
+use Rattle.j_definitions.specs.Cells.{in_order}
+use Rattle.j_definitions.specs.declared.Fault.{Fault}
+use Rattle.j_definitions.specs.declared.Fault.TheVariants.{Domain}
+use Rattle.j_search.proofs.Keeping.{map_map}
+use Rattle.j_select.proofs.Indices.{gives_more, gives_all, gives_fault}
+use Rattle.j_cuts_key.specs.Cuts.{mark_in}
+use Rattle.j_cuts_key.proofs.frets.marks_of_wholes.Goals as goal
+
+pub returns-in_default : goal.returns-in_default
+returns-in_default c =
+    ap (in_order {C = Bool} {E = Fault}) (map_map mark_in number c.args.numbers.now)
+    ∙ gives_fault (λ x. mark_in (number x)) c.args.numbers.now c.loop-n.n-index (get_or c.args.numbers.now c.loop-n.n-index (pos 0)) Domain c.loop-n.marks.items (omega arith) (search rules) (search rules) c.loop-n.invariant
+
+pub returns : goal.returns
+returns c =
+    ap (in_order {C = Bool} {E = Fault}) (map_map mark_in number c.args.numbers.now)
+    ∙ gives_all (λ x. mark_in (number x)) c.args.numbers.now c.loop-n.n-index c.loop-n.marks.items (omega arith) c.loop-n.invariant
+
+pub loop-n-preserved : goal.loop-n-preserved
+loop-n-preserved c =
+    gives_more (λ x. mark_in (number x)) c.args.numbers.now c.loop-n.n-index (get_or c.args.numbers.now c.loop-n.n-index (pos 0)) c.in-Some.mark c.loop-n.marks.items c.push.new.self.items (omega arith) (search rules) (search rules) c.in-Ok.ensures.items c.loop-n.invariant
