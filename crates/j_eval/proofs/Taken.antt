@@ -11,7 +11,7 @@ use Rattle.j_eval.specs.Meets.{Running, Meets}
 use Rattle.j_eval.specs.Pieces.{on_pieces, source_of_pieces}
 use Rattle.j_eval.specs.Sources.{cells_at, source_of}
 use Rattle.j_eval.specs.declared.sources.CellsFrom.{CellsFrom}
-use Rattle.j_eval.specs.declared.sources.CellsFrom.TheVariants.{Arguments, Runs}
+use Rattle.j_eval.specs.declared.sources.CellsFrom.TheVariants.{Arguments, Runs, Groups}
 use Rattle.j_rank.specs.Plans.{Planned}
 use Rattle.j_scans.specs.Pieced.{Pieced}
 use Rattle.j_verbs.specs.ByRank.{Doing, Cells, pair, source}
@@ -60,6 +60,7 @@ cells_from (Arguments p x y) k l =
     let many = planned_many p.now (option_copied x) y.now in
     planned_from p.now (option_copied x) y.now k (omega (arith, many)) ∙ ap (λ j. pair p.now (option_copied x) y.now k ∷ drop j (source p.now (option_copied x) y.now).pairs) (sym (add-one k))
 cells_from (Runs p) k l = pieces_at_once p.now k l
+cells_from (Groups p) k l = pieces_at_once p.now k l
 
 -- pieces that are made, and pieces that aren't
 pub pieces_ok : (f : Doing) (r : Result Pieced Fault) (p : Pieced) (a : Result Array Halt) (m : Running) (s : State) → Ok p ≡ r → Meets a m (on_pieces f p s) → Meets a m (then_do (or_fault r s) (on_pieces f))

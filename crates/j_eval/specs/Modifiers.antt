@@ -3,11 +3,11 @@ use Rattle.j_leaves.specs.declared.modifier.Modifier.{Modifier}
 use Rattle.j_leaves.specs.declared.modifier.Modifier.TheVariants as m
 use Rattle.j_trains.specs.Modifiers.{adverb_fault, conjunction_fault}
 use Rattle.j_verbs.specs.ByRank.{Doing}
-use Rattle.j_eval.specs.Operands.{Operand, later, unformed, where_formed}
+use Rattle.j_eval.specs.Operands.{Operand, unformed, where_formed}
 use Rattle.j_eval.specs.Insertion.{insert, inner_product}
 use Rattle.j_eval.specs.Amending.{amend}
 use Rattle.j_eval.specs.Compositions.{at, over, bond, passive, under}
-use Rattle.j_eval.specs.Pieces.{prefix, suffix}
+use Rattle.j_eval.specs.Pieces.{prefix, suffix, oblique, cut}
 use Rattle.j_eval.specs.Powers.{power}
 use Rattle.j_eval.specs.Ranked.{rank}
 
@@ -15,7 +15,7 @@ abbrev pub modified : Modifier → Operand → Doing
 modified m.Insert u = insert u
 modified m.Prefix u = prefix u
 modified m.Suffix u = suffix u
-modified m.Oblique u = later
+modified m.Oblique u = oblique u
 modified m.Passive u = passive u
 modified m.Amend u = amend u
 modified m.Cut u = unformed
@@ -31,7 +31,7 @@ modified m.Adverse u = unformed
 modified m.Monadic u = unformed
 
 abbrev pub joined : Modifier → Operand → Operand → Doing
-joined m.Cut u v = later
+joined m.Cut u v = cut u v
 joined m.Rank u v = rank u
 joined m.Atop u v = at u v
 joined m.At u v = at u v

@@ -1,7 +1,7 @@
 -- The operands of modifiers.
 use Rattle.std.specs.Prelude.{Option, Some, None}
 use Rattle.j_definitions.specs.declared.Fault.{Fault}
-use Rattle.j_definitions.specs.declared.Fault.TheVariants.{Domain, Nonce}
+use Rattle.j_definitions.specs.declared.Fault.TheVariants.{Domain}
 use Rattle.j_entity.specs.Tree.{OperandTree}
 use Rattle.j_verbs.specs.ByRank.{Doing}
 use Rattle.j_verbs.specs.State.{fail}
@@ -14,10 +14,6 @@ pub record Operand : Type 0 where
 -- what no row forms
 abbrev pub unformed : Doing
 unformed x y = fail Domain
-
--- what isn't there yet
-abbrev pub later : Doing
-later x y = fail Nonce
 
 -- what a verb does, unless its operands are at fault, so that no row forms it
 abbrev pub where_formed : Option Fault → Doing → Doing

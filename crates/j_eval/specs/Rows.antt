@@ -72,6 +72,10 @@ under u v = derived2 m.Under (operand.verb (primitive u)) (operand.verb (primiti
 abbrev pub on_parts : Modifier → VerbTree → VerbTree
 on_parts a u = derived a (operand.verb u)
 
+-- `#` on the pieces of a cut
+abbrev pub cut_by : ℤ → VerbTree
+cut_by n = derived2 m.Cut (operand.verb (primitive p.Tally)) (operand.noun (atom n))
+
 -- what a verb does with one noun and with two, where there are levels enough
 abbrev pub on_one : VerbTree → Array → State → Outcome Array
 on_one v y s = call (nested 9) v None y s

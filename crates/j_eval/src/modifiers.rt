@@ -31,7 +31,7 @@ impl Machine {
             Modifier::Amend => self.amend(u, x, y),
             Modifier::Prefix => self.prefix(room, u, x, y),
             Modifier::Suffix => self.suffix(room, u, x, y),
-            Modifier::Oblique => Err(Halt::Failed(Fault::Nonce)),
+            Modifier::Oblique => self.oblique(room, u, x, y),
             Modifier::Cut
             | Modifier::Rank
             | Modifier::Atop
@@ -86,7 +86,7 @@ impl Machine {
             Modifier::Bond => self.bond(room, u, v, x, y),
             Modifier::Appose => self.over(room, u, v, x, y),
             Modifier::Under => self.under(room, u, v, x, y),
-            Modifier::Cut => Err(Halt::Failed(Fault::Nonce)),
+            Modifier::Cut => self.cut(room, u, v, x, y),
             Modifier::Product => self.product(room, u, v, x, y),
             // At two places, so that it keeps a frame of its own.
             Modifier::PowerOf => match x {

@@ -4,7 +4,9 @@ ghost use Rattle.std.specs.Option.{option_copied};
 ghost use Rattle.j_entity.specs.View.{operand_of};
 ghost use Rattle.j_eval.specs.Applying.{does, nested, seen};
 ghost use Rattle.j_eval.specs.Meets.{Meets, Onward};
-ghost use Rattle.j_eval.specs.Pieces.{on_source, prefix, prefix_pieces, suffix, suffix_pieces};
+ghost use Rattle.j_noun.specs.Viewed.{viewed};
+ghost use Rattle.j_verbs.specs.State.{or_fault};
+ghost use Rattle.j_eval.specs.Pieces.{cut, cut_pieces, form_of, form_said, oblique, oblique_pieces, on_source, operand_form, prefix, prefix_pieces, suffix, suffix_pieces};
 ghost use Rattle.j_eval.specs.Sources.{HasCells, source_of};
 
 use crate::by_rank::EachCell;
@@ -12,8 +14,9 @@ use crate::machine::Machine;
 use crate::outcome::Halt;
 use crate::sources::{CellsFrom, cell_count};
 use j_entity::Operand;
-use j_noun::{Fault, Noun};
+use j_noun::{Fault, Noun, View};
 use j_scans::{Pieces, infixes, outfixes, prefixes, suffixes};
+use j_search::CutForm;
 
 // Most pieces that a verb is applied to.
 const MOST_PIECES: usize = 4_194_304;
@@ -37,6 +40,77 @@ fn suffix_pieces<'a>(x: Option<&Noun>, y: &'a Noun) -> Result<Pieces<'a>, Fault>
         None => Ok(suffixes(y)),
         Some(x) if x.axes().is_empty() => outfixes(x, y),
         Some(_) => Err(Fault::Rank),
+    }
+}
+
+// The cut that a number says.
+fn form_of(n: i64) -> Option<CutForm>
+    ensures { result ≡ form_of n }
+{
+    match n {
+        1 => Some(CutForm::Begin),
+        -1 => Some(CutForm::BeginDrop),
+        2 => Some(CutForm::End),
+        -2 => Some(CutForm::EndDrop),
+        _ => None,
+    }
+}
+
+// The cut that the first atom says.
+fn form_said(atoms: View<'_>) -> Option<CutForm>
+    ensures { result ≡ form_said (viewed atoms.entry) }
+{
+    match atoms {
+        View::Wholes([n, ..]) => form_of(*n),
+        View::Bits([b, ..]) => form_of(i64::from(*b)),
+        View::Wholes([]) | View::Bits([]) | View::Bytes(_) | View::Boxes(_) => None,
+    }
+}
+
+// The cut that the right operand says.
+fn operand_form(v: &Operand) -> Option<CutForm>
+    ensures { result ≡ operand_form (operand_of v.now) }
+{
+    match v {
+        Operand::Noun(n) => form_said(n.view()),
+        Operand::Verb(_) | Operand::Ranks(_) => None,
+    }
+}
+
+// What needs memory, apart from the functions that call each other.
+impl Machine {
+    // Oblique lines, or the items of each key.
+    fn oblique_pieces<'a>(
+        &mut self,
+        x: Option<&Noun>,
+        y: &'a Noun,
+    ) -> Result<j_cuts_key::Pieces<'a>, Halt>
+        ensures gives { Meets result self.new (or_fault (oblique_pieces (option_copied x.entry) y.now) self.old.state) }
+        ensures onward { Onward self.old self.new }
+    {
+        match x {
+            Some(x) => Ok(j_cuts_key::keyed(&mut self.pool, x, y)?),
+            None => Ok(j_cuts_key::obliques(y)),
+        }
+    }
+
+    // The pieces between frets that match an item, or that are marked.
+    fn cut_pieces<'a>(
+        &mut self,
+        form: CutForm,
+        x: Option<&Noun>,
+        y: &'a Noun,
+    ) -> Result<j_cuts_key::Pieces<'a>, Halt>
+        ensures gives { Meets result self.new (or_fault (cut_pieces form (option_copied x.entry) y.now) self.old.state) }
+        ensures onward { Onward self.old self.new }
+    {
+        match x {
+            None => Ok(j_cuts_key::cuts(&mut self.pool, form, y)?),
+            Some(x) if x.axes().len() <= 1 => {
+                Ok(j_cuts_key::cuts_by(&mut self.pool, form, x, y)?)
+            }
+            Some(_) => Err(Halt::Failed(Fault::Rank)),
+        }
     }
 }
 
@@ -90,5 +164,45 @@ impl Machine {
             Ok(pieces) => self.on_pieces(room, u, CellsFrom::Runs(&pieces)),
             Err(fault) => Err(Halt::Failed(fault)),
         }
+    }
+
+    // `u/.`
+    #[cycle(eval)]
+    pub(crate) fn oblique(
+        &mut self,
+        room: u32,
+        u: &Operand,
+        x: Option<&Noun>,
+        y: &Noun,
+    ) -> Result<Noun, Halt>
+        ensures gives { Meets result self.new (oblique (seen (nested room) (operand_of u.now)) (option_copied x.entry) y.now self.old.state) }
+        ensures onward { Onward self.old self.new }
+    {
+        let pieces = self.oblique_pieces(x, y)?;
+        let answer = self.on_pieces(room, u, CellsFrom::Groups(&pieces));
+        drop(pieces);
+        answer
+    }
+
+    // `u;.n`
+    #[cycle(eval)]
+    pub(crate) fn cut(
+        &mut self,
+        room: u32,
+        u: &Operand,
+        v: &Operand,
+        x: Option<&Noun>,
+        y: &Noun,
+    ) -> Result<Noun, Halt>
+        ensures gives { Meets result self.new (cut (seen (nested room) (operand_of u.now)) (seen (nested room) (operand_of v.now)) (option_copied x.entry) y.now self.old.state) }
+        ensures onward { Onward self.old self.new }
+    {
+        let Some(form) = operand_form(v) else {
+            return Err(Halt::Failed(Fault::Domain));
+        };
+        let pieces = self.cut_pieces(form, x, y)?;
+        let answer = self.on_pieces(room, u, CellsFrom::Groups(&pieces));
+        drop(pieces);
+        answer
     }
 }

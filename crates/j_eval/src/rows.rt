@@ -17,7 +17,7 @@ ghost use Rattle.j_eval.specs.Applying.{call, nested};
 ghost use Rattle.j_eval.specs.Table.{row_at};
 ghost use Rattle.j_eval.specs.Meaning.{top};
 ghost use Rattle.j_eval.specs.Laws.{BoundIsEnough};
-ghost use Rattle.j_eval.specs.Rows.{atom, character, list, noun, verb, plus, minus, times, at, joining, swapped, amending, shaped, inserted, dotted, under, on_parts, on_one, on_two, within, after, knowing, f_is, top_of, gave};
+ghost use Rattle.j_eval.specs.Rows.{atom, character, list, noun, verb, plus, minus, times, at, joining, swapped, amending, shaped, inserted, dotted, under, on_parts, cut_by, on_one, on_two, within, after, knowing, f_is, top_of, gave};
 
 /// Laws: which row four entries match, worked out by hand.
 pub fn table_rows()
@@ -134,7 +134,16 @@ pub fn piece_rows()
     ensures by_character { (s : State) → on_two (character 97) (on_parts m.Prefix (inserted p.Plus)) (list (pos 1 ∷ [])) s ≡ Erred fault.Domain s }
     ensures by_each_number { (s : State) → on_two (list (pos 1 ∷ pos 2 ∷ [])) (on_parts m.Prefix (inserted p.Plus)) (list (pos 5 ∷ pos 7 ∷ [])) s ≡ Gave (shaped (2 ∷ 2 ∷ []) (pos 5 ∷ pos 7 ∷ pos 12 ∷ pos 0 ∷ [])) s }
     ensures outfixes { (s : State) → on_two (atom (pos 1)) (on_parts m.Suffix (inserted p.Plus)) (list (pos 1 ∷ pos 2 ∷ pos 4 ∷ [])) s ≡ Gave (list (pos 6 ∷ pos 5 ∷ pos 3 ∷ [])) s }
-    ensures no_keys_yet { (s : State) → on_one (on_parts m.Oblique (inserted p.Plus)) (list (pos 1 ∷ [])) s ≡ Erred fault.Nonce s }
+    ensures oblique_lines { (s : State) → on_one (on_parts m.Oblique (inserted p.Plus)) (shaped (2 ∷ 2 ∷ []) (pos 1 ∷ pos 2 ∷ pos 3 ∷ pos 4 ∷ [])) s ≡ Gave (list (pos 1 ∷ pos 5 ∷ pos 4 ∷ [])) s }
+    ensures keys { (s : State) → on_two (list (pos 1 ∷ pos 2 ∷ pos 1 ∷ [])) (on_parts m.Oblique (primitive p.Tally)) (list (pos 5 ∷ pos 6 ∷ pos 7 ∷ [])) s ≡ Gave (list (pos 2 ∷ pos 1 ∷ [])) s }
+    ensures unequal_keys { (s : State) → on_two (list (pos 1 ∷ pos 2 ∷ [])) (on_parts m.Oblique (primitive p.Tally)) (list (pos 5 ∷ [])) s ≡ Erred fault.Length s }
+    ensures cut_at_first { (s : State) → on_one (cut_by (pos 1)) (list (pos 1 ∷ pos 2 ∷ pos 3 ∷ pos 1 ∷ [])) s ≡ Gave (list (pos 3 ∷ pos 1 ∷ [])) s }
+    ensures cut_behind_first { (s : State) → on_one (cut_by (negsuc 0)) (list (pos 1 ∷ pos 2 ∷ pos 3 ∷ pos 1 ∷ [])) s ≡ Gave (list (pos 2 ∷ pos 0 ∷ [])) s }
+    ensures cut_at_last { (s : State) → on_one (cut_by (pos 2)) (list (pos 1 ∷ pos 2 ∷ pos 3 ∷ pos 1 ∷ [])) s ≡ Gave (list (pos 1 ∷ pos 3 ∷ [])) s }
+    ensures cut_before_last { (s : State) → on_one (cut_by (negsuc 1)) (list (pos 1 ∷ pos 2 ∷ pos 3 ∷ pos 1 ∷ [])) s ≡ Gave (list (pos 0 ∷ pos 2 ∷ [])) s }
+    ensures cut_by_marks { (s : State) → on_two (list (pos 0 ∷ pos 1 ∷ pos 0 ∷ pos 1 ∷ [])) (cut_by (pos 1)) (list (pos 1 ∷ pos 2 ∷ pos 3 ∷ pos 1 ∷ [])) s ≡ Gave (list (pos 2 ∷ pos 1 ∷ [])) s }
+    ensures too_few_marks { (s : State) → on_two (list (pos 0 ∷ pos 1 ∷ [])) (cut_by (pos 1)) (list (pos 1 ∷ pos 2 ∷ pos 3 ∷ [])) s ≡ Erred fault.Length s }
+    ensures no_marks { (s : State) → on_two (atom (pos 2)) (cut_by (pos 1)) (list (pos 1 ∷ pos 2 ∷ pos 3 ∷ [])) s ≡ Erred fault.Domain s }
 {}
 
 /// Laws: a verb time after time, worked out by hand, with its steps.

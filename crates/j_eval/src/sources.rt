@@ -10,11 +10,12 @@ use crate::outcome::Halt;
 use j_noun::Noun;
 use j_rank::{Collector, Plan, shape_of};
 
-// The cells that a plan takes of arguments, or runs of the items of a noun, each alone.
+// The cells that a plan takes of arguments, or the pieces of a noun, each alone: runs of its items, or items that belong together.
 #[derive(Clone, Copy)]
 pub(crate) enum CellsFrom<'a> {
     Arguments(&'a Plan, Option<&'a Noun>, &'a Noun),
     Runs(&'a j_scans::Pieces<'a>),
+    Groups(&'a j_cuts_key::Pieces<'a>),
 }
 
 // How many cells there are, or pairs of them.
@@ -26,6 +27,7 @@ pub(crate) fn cell_count(cells: CellsFrom<'_>) -> usize
     match cells {
         CellsFrom::Arguments(plan, _, _) => plan.count(),
         CellsFrom::Runs(pieces) => pieces.count(),
+        CellsFrom::Groups(pieces) => pieces.count(),
     }
 }
 
@@ -36,6 +38,7 @@ pub(crate) fn collector(cells: CellsFrom<'_>) -> Collector
     match cells {
         CellsFrom::Arguments(plan, _, _) => Collector::new(plan.frame().copy()),
         CellsFrom::Runs(pieces) => Collector::new(shape_of(&[pieces.count()])),
+        CellsFrom::Groups(pieces) => Collector::new(shape_of(&[pieces.count()])),
     }
 }
 
@@ -55,6 +58,7 @@ impl Machine {
         match cells {
             CellsFrom::Arguments(plan, x, y) => Ok(j_verbs::pair(&mut self.pool, plan, x, y, k)?),
             CellsFrom::Runs(pieces) => Ok((None, pieces.piece(&mut self.pool, k)?)),
+            CellsFrom::Groups(pieces) => Ok((None, pieces.piece(&mut self.pool, k)?)),
         }
     }
 
@@ -67,6 +71,7 @@ impl Machine {
         match cells {
             CellsFrom::Arguments(plan, x, y) => Ok(j_verbs::fills(&mut self.pool, plan, x, y)?),
             CellsFrom::Runs(pieces) => Ok((None, pieces.no_items(&mut self.pool)?)),
+            CellsFrom::Groups(pieces) => Ok((None, pieces.no_items(&mut self.pool)?)),
         }
     }
 }

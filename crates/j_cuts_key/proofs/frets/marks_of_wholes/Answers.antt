@@ -4,7 +4,7 @@ use Rattle.j_definitions.specs.Cells.{in_order}
 use Rattle.j_definitions.specs.declared.Fault.{Fault}
 use Rattle.j_definitions.specs.declared.Fault.TheVariants.{Domain}
 use Rattle.j_search.proofs.Keeping.{map_map}
-use Rattle.j_select.proofs.Indices.{gives_more, gives_all, gives_fault}
+use Rattle.j_indices.proofs.Indices.{gives_more, gives_all, gives_fault}
 use Rattle.j_cuts_key.specs.Cuts.{mark_in}
 use Rattle.j_cuts_key.proofs.frets.marks_of_wholes.Goals as goal
 

@@ -1,6 +1,6 @@
 use Rattle.std.proofs.Common.{pos}
 use Rattle.j_definitions.specs.Array.{number}
-use Rattle.j_select.proofs.Indices.{GivesFirst}
+use Rattle.j_indices.proofs.Indices.{GivesFirst}
 use Rattle.j_cuts_key.specs.Cuts.{mark_in}
 use Rattle.j_cuts_key.proofs.frets.marks_of_wholes.Given as goal
 

@@ -48,6 +48,42 @@ pub returns-clause-outfixes : goal.returns-clause-outfixes
 unfolding apply word by_ranks
 returns-clause-outfixes c = λ s. refl
 
-pub returns-clause-no_keys_yet : goal.returns-clause-no_keys_yet
+pub returns-clause-oblique_lines : goal.returns-clause-oblique_lines
 unfolding apply word by_ranks
-returns-clause-no_keys_yet c = λ s. refl
+returns-clause-oblique_lines c = λ s. refl
+
+pub returns-clause-keys : goal.returns-clause-keys
+unfolding apply word by_ranks
+returns-clause-keys c = λ s. refl
+
+pub returns-clause-unequal_keys : goal.returns-clause-unequal_keys
+unfolding apply word by_ranks
+returns-clause-unequal_keys c = λ s. refl
+
+pub returns-clause-cut_at_first : goal.returns-clause-cut_at_first
+unfolding apply word by_ranks
+returns-clause-cut_at_first c = λ s. refl
+
+pub returns-clause-cut_behind_first : goal.returns-clause-cut_behind_first
+unfolding apply word by_ranks
+returns-clause-cut_behind_first c = λ s. refl
+
+pub returns-clause-cut_at_last : goal.returns-clause-cut_at_last
+unfolding apply word by_ranks
+returns-clause-cut_at_last c = λ s. refl
+
+pub returns-clause-cut_before_last : goal.returns-clause-cut_before_last
+unfolding apply word by_ranks
+returns-clause-cut_before_last c = λ s. refl
+
+pub returns-clause-cut_by_marks : goal.returns-clause-cut_by_marks
+unfolding apply word by_ranks
+returns-clause-cut_by_marks c = λ s. refl
+
+pub returns-clause-too_few_marks : goal.returns-clause-too_few_marks
+unfolding apply word by_ranks
+returns-clause-too_few_marks c = λ s. refl
+
+pub returns-clause-no_marks : goal.returns-clause-no_marks
+unfolding apply word by_ranks
+returns-clause-no_marks c = λ s. refl

@@ -103,6 +103,12 @@ decreases-prefix l = level * l.room + step * operand_height (operand_of l.u.now)
 abbrev pub decreases-suffix : goal.decreases-suffix
 decreases-suffix l = level * l.room + step * operand_height (operand_of l.u.now) + 46
 
+abbrev pub decreases-oblique : goal.decreases-oblique
+decreases-oblique l = level * l.room + step * operand_height (operand_of l.u.now) + 46
+
+abbrev pub decreases-cut : goal.decreases-cut
+decreases-cut l = level * l.room + step * operand_height (operand_of l.u.now) + 46
+
 abbrev pub decreases-on_pieces : goal.decreases-on_pieces
 decreases-on_pieces l = level * l.room + step * operand_height (operand_of l.u.now) + 45
 
