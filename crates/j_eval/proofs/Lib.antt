@@ -11,3 +11,4 @@ pub mod Identities
 pub mod Repeats
 pub mod Obverses
 pub mod Taken
+pub mod Forms

@@ -1,6 +1,7 @@
 // Verbs on the pieces of a noun.
-ghost use Rattle.std.specs.Prelude.{◌≡◌};
+ghost use Rattle.std.specs.Prelude.{◌≡◌, pos, map};
 ghost use Rattle.std.specs.Option.{option_copied};
+ghost use Rattle.j_definitions.specs.Array.{number};
 ghost use Rattle.j_entity.specs.View.{operand_of};
 ghost use Rattle.j_eval.specs.Applying.{does, nested, seen};
 ghost use Rattle.j_eval.specs.Meets.{Meets, Onward};
@@ -56,14 +57,35 @@ fn form_of(n: i64) -> Option<CutForm>
     }
 }
 
+// The cut that the first number says.
+fn first_cut_form(numbers: &[i64]) -> Option<CutForm>
+    ensures { result ≡ form_said (map (λ n. number n) numbers.now) }
+{
+    match numbers {
+        [n, ..] => form_of(*n),
+        [] => None,
+    }
+}
+
+// The cut that the first bit says.
+fn first_bit_form(bits: &[u8]) -> Option<CutForm>
+    ensures { result ≡ form_said (map (λ b. number (pos b)) bits.now) }
+{
+    match bits {
+        [b, ..] => form_of(i64::from(*b)),
+        [] => None,
+    }
+}
+
 // The cut that the first atom says.
+#[tactic(auto, using(crate::proofs::Forms::no_byte_form, crate::proofs::Forms::no_box_form))]
 fn form_said(atoms: View<'_>) -> Option<CutForm>
     ensures { result ≡ form_said (viewed atoms.entry) }
 {
     match atoms {
-        View::Wholes([n, ..]) => form_of(*n),
-        View::Bits([b, ..]) => form_of(i64::from(*b)),
-        View::Wholes([]) | View::Bits([]) | View::Bytes(_) | View::Boxes(_) => None,
+        View::Wholes(numbers) => first_cut_form(numbers),
+        View::Bits(bits) => first_bit_form(bits),
+        View::Bytes(_) | View::Boxes(_) => None,
     }
 }
 
