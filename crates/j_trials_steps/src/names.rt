@@ -95,3 +95,25 @@ fn doubling(rt: HostRuntime) -> Result<(), Fail> {
     assert_eq!(rt; run(&rt, alloc, lines, 17, "")?, (true, 17, true));
     Ok(())
 }
+
+// A verb on pieces looks its name up for each piece, up to the first that fails.
+#[test]
+fn names_on_pieces(rt: HostRuntime) -> Result<(), Fail> {
+    let alloc = rt.alloc();
+    let rows: [(&str, u64, &str); 4] = [
+        // two steps, then the sentence, rows 3 and 0, and two lines
+        ("f =: #\nf/. 'ab'", 7, "1 1\n"),
+        ("f =: #\n'aba' f/. 1 2 3", 7, "2 1\n"),
+        ("f =: #\nf;.1 'aba'", 7, "2 1\n"),
+        // three steps, then the sentence, rows 2, 3 and 0, and two of the three lines
+        ("f =: +/\nf/. 2 2 $ 0 9223372036854775807 1 0", 9, ""),
+    ];
+    for (lines, steps, shown) in &rows {
+        assert_eq!(rt;
+            run(&rt, alloc, *lines, *steps, *shown)?,
+            (false, *steps, true),
+            "{lines}"
+        );
+    }
+    Ok(())
+}
