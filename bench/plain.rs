@@ -1,6 +1,6 @@
 // What verbs do, as plain Rust does it: each result in a new vector, with a test where one may be out of range.
 // Arguments: a verb, or copy, what it works on, how many items, how many times. For a scalar verb that is its right side (list, atom, bits or letter),
-// for others moved (items of a list), small, large or rows (searched and sorted), letters, folds, or boxes.
+// for others moved (items of a list), small, large or rows (searched and sorted), letters, folds, boxes, or pieces.
 use std::collections::{HashMap, HashSet};
 use std::fmt::Write as _;
 use std::hash::Hash;
@@ -288,6 +288,48 @@ fn boxes(verb: &str, n: usize, times: usize) {
     }
 }
 
+// How often each number stands, in the order of the first ones.
+fn tallies(x: &[i64]) -> Vec<i64> {
+    let mut places = HashMap::new();
+    let mut out = Vec::new();
+    for z in x {
+        let place = *places.entry(*z).or_insert(out.len());
+        if place == out.len() {
+            out.push(0);
+        }
+        out[place] += 1;
+    }
+    out
+}
+
+// The sum up to each number.
+fn totals(x: &[i64]) -> Option<Vec<i64>> {
+    let mut sum = 0_i64;
+    x.iter()
+        .map(|z| {
+            sum = sum.checked_add(*z)?;
+            Some(sum)
+        })
+        .collect()
+}
+
+fn pieces(verb: &str, n: usize, times: usize) {
+    let x: Vec<i64> = (0..n as i64).map(|i| 10 + i * 7919 % 90).collect();
+    let few: Vec<i64> = (0..n as i64).map(|i| i * 7919 % 1000).collect();
+    let many: Vec<i64> = (0..n as i64).map(|i| (12345 + 1_103_515_245 * i) % 2_147_483_648).collect();
+    let text: Vec<u8> = b",words,letter,places".iter().copied().cycle().take(n).collect();
+    for _ in 0..times {
+        match verb {
+            "cuts" => drop(black_box(black_box(&text)[1..].split(|c| *c == b',').map(<[u8]>::to_vec).collect::<Vec<Vec<u8>>>())),
+            "tallies" => drop(black_box(black_box(&text)[1..].split(|c| *c == b',').map(|word| word.len() as i64).collect::<Vec<i64>>())),
+            "few" => drop(black_box(tallies(black_box(&few)))),
+            "many" => drop(black_box(tallies(black_box(&many)))),
+            "gaps" => drop(black_box(black_box(&x).windows(2).map(|pair| pair[0].checked_sub(pair[1])).collect::<Option<Vec<i64>>>())),
+            _ => drop(black_box(totals(black_box(&x)))),
+        }
+    }
+}
+
 fn main() {
     let words: Vec<String> = std::env::args().collect();
     let (verb, side) = (words[1].as_str(), words[2].as_str());
@@ -298,6 +340,7 @@ fn main() {
         "letters" => return letters(n, times),
         "folds" => return folds(verb, n, times),
         "boxes" => return boxes(verb, n, times),
+        "pieces" => return pieces(verb, n, times),
         _ => {}
     }
     let x: Vec<i64> = (0..n as i64).map(|i| 10 + i * 7919 % 90).collect();
