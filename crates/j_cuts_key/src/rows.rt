@@ -14,6 +14,7 @@ pub fn worked_obliques()
     ensures tall { (obliques (numbers_in (3 ∷ 2 ∷ []) (0 ∷ 1 ∷ 2 ∷ 3 ∷ 4 ∷ 5 ∷ []))).pieces ≡ list (0 ∷ []) ∷ list (1 ∷ 2 ∷ []) ∷ list (3 ∷ 4 ∷ []) ∷ list (5 ∷ []) ∷ [] }
     ensures of_list { (obliques (list (7 ∷ 8 ∷ 9 ∷ []))).pieces ≡ list (7 ∷ []) ∷ list (8 ∷ []) ∷ list (9 ∷ []) ∷ [] }
     ensures of_atom { (obliques five).pieces ≡ one_five ∷ [] }
+    ensures of_one { (obliques one_five).pieces ≡ one_five ∷ [] }
     ensures of_none { (obliques none).pieces ≡ [] }
     ensures of_no_rows { (obliques no_rows).pieces ≡ [] }
     ensures of_no_columns { (obliques (no_columns 3)).pieces ≡ [] }
@@ -35,6 +36,7 @@ pub fn worked_keys()
     ensures atom_of_list { keyed_by five one_five ≡ OkValue (one_five ∷ []) }
     ensures nothing { keyed_by none none ≡ OkValue [] }
     ensures no_rows { keyed_by none no_rows ≡ OkValue [] }
+    ensures no_columns { keyed_by (list (4 ∷ 5 ∷ 4 ∷ [])) (no_columns 3) ≡ OkValue (no_columns 2 ∷ no_columns 1 ∷ []) }
     ensures empty_keys { keyed_by (no_columns 3) (list (1 ∷ 2 ∷ 3 ∷ [])) ≡ OkValue (list (1 ∷ 2 ∷ 3 ∷ []) ∷ []) }
     ensures boxes { keyed_by (boxes_in (2 ∷ []) (five ∷ none ∷ [])) (list (1 ∷ 2 ∷ [])) ≡ OkValue (list (1 ∷ []) ∷ list (2 ∷ []) ∷ []) }
     ensures unequal { keyed_by (list (1 ∷ 2 ∷ [])) (list (1 ∷ [])) ≡ ErrValue Length }
@@ -79,6 +81,8 @@ pub fn worked_marked_cuts()
     ensures list_on_atom { marked_by Begin (list (1 ∷ [])) five ≡ OkValue (one_five ∷ []) }
     ensures rows { marked_by Begin (list (0 ∷ 1 ∷ [])) table ≡ OkValue (numbers_in (1 ∷ 3 ∷ []) (3 ∷ 4 ∷ 5 ∷ []) ∷ []) }
     ensures no_rows { marked_by Begin none no_rows ≡ OkValue [] }
+    ensures no_columns { marked_by End (list (0 ∷ 1 ∷ 1 ∷ [])) (no_columns 3) ≡ OkValue (no_columns 2 ∷ no_columns 1 ∷ []) }
+    ensures one { marked_by BeginDrop (list (1 ∷ [])) one_five ≡ OkValue (none ∷ []) }
     ensures no_characters { marked_by Begin (text []) none ≡ OkValue [] }
     ensures no_boxes { marked_by End (boxes_in (0 ∷ []) []) none ≡ OkValue [] }
     ensures unequal { marked_by Begin (list (1 ∷ 0 ∷ [])) (list (5 ∷ 6 ∷ 7 ∷ [])) ≡ ErrValue Length }

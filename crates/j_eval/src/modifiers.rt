@@ -31,7 +31,11 @@ impl Machine {
             Modifier::Amend => self.amend(u, x, y),
             Modifier::Prefix => self.prefix(room, u, x, y),
             Modifier::Suffix => self.suffix(room, u, x, y),
-            Modifier::Oblique => self.oblique(room, u, x, y),
+            // At two places, so that it keeps a frame of its own.
+            Modifier::Oblique => match x {
+                Some(_) => self.oblique(room, u, x, y),
+                None => self.oblique(room, u, None, y),
+            },
             Modifier::Cut
             | Modifier::Rank
             | Modifier::Atop
@@ -86,9 +90,12 @@ impl Machine {
             Modifier::Bond => self.bond(room, u, v, x, y),
             Modifier::Appose => self.over(room, u, v, x, y),
             Modifier::Under => self.under(room, u, v, x, y),
-            Modifier::Cut => self.cut(room, u, v, x, y),
             Modifier::Product => self.product(room, u, v, x, y),
-            // At two places, so that it keeps a frame of its own.
+            // Each at two places, so that it keeps a frame of its own.
+            Modifier::Cut => match x {
+                Some(_) => self.cut(room, u, v, x, y),
+                None => self.cut(room, u, v, None, y),
+            },
             Modifier::PowerOf => match x {
                 Some(_) => self.power(room, u, v, x, y),
                 None => self.power(room, u, v, None, y),
