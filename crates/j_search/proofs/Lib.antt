@@ -10,3 +10,5 @@ pub mod Lost
 pub mod Alike
 pub mod Searching
 pub mod Tables
+pub mod Packing
+pub mod Merging

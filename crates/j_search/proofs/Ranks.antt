@@ -20,10 +20,11 @@ use Rattle.std.proofs.lemmas.List.FromFn.{length-range_with_len, get_or-range_wi
 use Rattle.std.proofs.lemmas.List.Sorted.{length_permutation, sum_by-IsPermutation, Contains-permutation, All-permutation, sorted_far, ranks_by, IsPermutation-map}
 use Rattle.std.proofs.lemmas.List.Sums.{sum_by-cons}
 use Rattle.std.proofs.lemmas.Map.Keys.{apart_from_distinct, IsDistinct-from_apart, IsDistinct-IsPermutation}
+use Rattle.j_search.specs.declared.order.Direction.{Direction}
 use Rattle.j_search.specs.declared.order.Direction.TheVariants.{Up, Down}
 use Rattle.j_search.specs.Matching.{places, first_of}
 use Rattle.j_search.specs.Sought.{run}
-use Rattle.j_search.specs.Graded.{run_cmp, run_order, places_with, pair_cmp, IsAscending, IsKeyed, IsKeyedBack}
+use Rattle.j_search.specs.Graded.{run_cmp, run_order, places_with, pair_cmp, IsInOrder, IsKeyed, IsKeyedBack}
 use Rattle.j_search.proofs.Picks.{first_at}
 
 abbrev one_if : Bool → ℕ
@@ -133,11 +134,17 @@ keyed_sorted place C Q R h (v ∷ vs) all sorted = λ k d l u.
     ∙ ap is_lt (sym (h (get_or (v ∷ vs) (k + 1) v) (get_or (v ∷ vs) k v) (All-contains Q (v ∷ vs) (get_or (v ∷ vs) (k + 1) v) all (Contains-get_or (v ∷ vs) (k + 1) v many)) (All-contains Q (v ∷ vs) (get_or (v ∷ vs) k v) all (Contains-get_or (v ∷ vs) k v (omega arith)))))
     ∙ sorted k v l many
 
-moved_places : {K : Type 0} (keys vs : List (K × ℕ)) (n : ℕ) → places_with keys ≡ places n → IsPermutation keys vs → IsPermutation (places n) (places_with vs)
-moved_places keys vs n e h = subst (λ (ps : List ℕ). IsPermutation ps (places_with vs)) e (IsPermutation-map (λ p. p.1) keys vs h)
-
-pub within_places : {K : Type 0} (keys vs : List (K × ℕ)) (n : ℕ) → places_with keys ≡ places n → IsPermutation keys vs → All (λ k. k < n) (places_with vs)
-within_places keys vs n e h = All-permutation (λ k. k < n) (places n) (places_with vs) (moved_places keys vs n e h) (All-places n)
+module _ {X : Type 0} (C : X → X → Ordering) (d : Direction) (size n : ℕ) (xs : List X) where
+  -- what stands with all places and is in order has them in order
+  pub in_order_by : {P : Type 0} (place : P → ℕ) (D : P → P → Ordering) (Q : P → Type 0) → ((x y : P) → Q x → Q y → D x y ≡ run_cmp C d size xs (place x) (place y)) →
+      (keys vs : List P) → map place keys ≡ places n → All Q keys → IsPermutation keys vs → IsSorted D vs → IsInOrder C d size n xs (map place vs)
+  in_order_by place D Q h keys vs e all moved sorted =
+      let turned : IsPermutation (places n) (map place vs) = subst (λ (ps : List ℕ). IsPermutation ps (map place vs)) e (IsPermutation-map place keys vs moved) in
+      record {
+        moved = turned;
+        sorted = keyed_sorted place D Q (run_cmp C d size xs) h vs (All-permutation Q keys vs moved all) sorted;
+        within = All-permutation (λ k. k < n) (places n) (map place vs) turned (All-places n);
+      }
 
 module _ {X : Type 0} (C : X → X → Ordering) (o : IsTotalOrder C) (size n : ℕ) (xs : List X) where
   pub up_total : IsTotalOrder (run_cmp C Up size xs)
@@ -152,26 +159,23 @@ module _ {X : Type 0} (C : X → X → Ordering) (o : IsTotalOrder C) (size n : 
   down_apart : (i j : ℕ) → run_cmp C Down size xs i j ≡ Equal → i ≡ j
   down_apart i j e = nat_equal i j (then_equal (slice_cmp C (run size xs j) (run size xs i)) (nat_cmp i j) e)
 
-  pub up_ascending : (keys vs : List (Bor (List X) × ℕ)) → places_with keys ≡ places n → All (IsKeyed size xs) keys → IsPermutation keys vs → IsSorted (pair_cmp (λ x y. slice_cmp C x.now y.now)) vs →
-      IsAscending C size n xs (places_with vs)
-  up_ascending keys vs e all moved sorted = record {
-    moved = moved_places keys vs n e moved;
-    sorted = keyed_sorted (λ p. p.1) (pair_cmp (λ x y. slice_cmp C x.now y.now)) (IsKeyed size xs) (run_cmp C Up size xs)
-        (λ p q hp hq. ap (λ us. ordering_then (slice_cmp C us q.0.now) (nat_cmp p.1 q.1)) hp ∙ ap (λ us. ordering_then (slice_cmp C (run size xs p.1) us) (nat_cmp p.1 q.1)) hq)
-        vs (All-permutation (IsKeyed size xs) keys vs moved all) sorted;
-    within = within_places keys vs n e moved;
-  }
+  pub up_in_order : (keys vs : List (Bor (List X) × ℕ)) → places_with keys ≡ places n → All (IsKeyed size xs) keys → IsPermutation keys vs → IsSorted (pair_cmp (λ x y. slice_cmp C x.now y.now)) vs →
+      IsInOrder C Up size n xs (places_with vs)
+  up_in_order keys vs e all moved sorted =
+      in_order_by C Up size n xs (λ p. p.1) (pair_cmp (λ x y. slice_cmp C x.now y.now)) (IsKeyed size xs)
+      (λ p q hp hq. ap (λ us. ordering_then (slice_cmp C us q.0.now) (nat_cmp p.1 q.1)) hp ∙ ap (λ us. ordering_then (slice_cmp C (run size xs p.1) us) (nat_cmp p.1 q.1)) hq)
+      keys vs e all moved sorted
 
-  pub up_graded : (ks : List ℕ) → IsAscending C size n xs ks → ks ≡ run_order C Up size n xs
-  up_graded ks a = in_order (run_cmp C Up size xs) up_total up_apart n ks a.moved a.sorted
-
-  pub down_graded : (keys vs : List (Reverse (Bor (List X)) × ℕ)) → places_with keys ≡ places n → All (IsKeyedBack size xs) keys → IsPermutation keys vs → IsSorted (pair_cmp (λ x y. slice_cmp C y.0.now x.0.now)) vs →
-      places_with vs ≡ run_order C Down size n xs
-  down_graded keys vs e all moved sorted =
-      in_order (run_cmp C Down size xs) down_total down_apart n (places_with vs) (moved_places keys vs n e moved)
-      (keyed_sorted (λ p. p.1) (pair_cmp (λ x y. slice_cmp C y.0.now x.0.now)) (IsKeyedBack size xs) (run_cmp C Down size xs)
+  pub down_in_order : (keys vs : List (Reverse (Bor (List X)) × ℕ)) → places_with keys ≡ places n → All (IsKeyedBack size xs) keys → IsPermutation keys vs → IsSorted (pair_cmp (λ x y. slice_cmp C y.0.now x.0.now)) vs →
+      IsInOrder C Down size n xs (places_with vs)
+  down_in_order keys vs e all moved sorted =
+      in_order_by C Down size n xs (λ p. p.1) (pair_cmp (λ x y. slice_cmp C y.0.now x.0.now)) (IsKeyedBack size xs)
       (λ p q hp hq. ap (λ us. ordering_then (slice_cmp C q.0.0.now us) (nat_cmp p.1 q.1)) hp ∙ ap (λ us. ordering_then (slice_cmp C us (run size xs p.1)) (nat_cmp p.1 q.1)) hq)
-      vs (All-permutation (IsKeyedBack size xs) keys vs moved all) sorted)
+      keys vs e all moved sorted
+
+  pub order_counted : (d : Direction) (ks : List ℕ) → IsInOrder C d size n xs ks → ks ≡ run_order C d size n xs
+  order_counted Up ks a = in_order (run_cmp C Up size xs) up_total up_apart n ks a.moved a.sorted
+  order_counted Down ks a = in_order (run_cmp C Down size xs) down_total down_apart n ks a.moved a.sorted
 
 -- one key more
 pub keyed_more : {K : Type 0} (keys new : List (K × ℕ)) (key : K) (k : ℕ) → places_with keys ≡ places k → new ≡ keys ++ (key, k) ∷ [] → places_with new ≡ places (k + 1)

@@ -1,5 +1,5 @@
 -- What is entered into a table of places, and what is read from it.
-use Rattle.std.proofs.Common.{◌≡◌, ◌<◌, ◌+◌, ◌-◌, inl, inr, ℕ, ℤ, pos, negsuc, ◌+ℤ◌, ◌-ℤ◌, Bool, true, false, ◌&&◌, cond, List, [], ◌∷◌, ◌++◌, length, map, take, drop, reverse, replicate, get_or, arith, refl, sym, ap, ◌∙◌, set, subst, mul-one, drop-cons, get_or-take, length-take-le, ◌≤ℤ◌, ◌<ℤ◌, Option, Some, None, IfSome}
+use Rattle.std.proofs.Common.{◌≡◌, ◌<◌, ◌+◌, ◌-◌, inl, inr, ℕ, ℤ, pos, negsuc, ◌+ℤ◌, ◌-ℤ◌, Bool, true, false, ◌&&◌, cond, List, [], ◌∷◌, ◌++◌, length, map, take, drop, reverse, replicate, get_or, arith, refl, sym, ap, ◌∙◌, set, subst, ◌≤◌, mul-one, drop-cons, get_or-take, length-take-le, ◌≤ℤ◌, ◌<ℤ◌, Option, Some, None, IfSome}
 use Prim.Native.Nat.{suc}
 use Rattle.std.specs.List.{All, filter, range_with_len}
 use Rattle.std.specs.Ordering.{int_eq}
@@ -11,10 +11,11 @@ use Rattle.std.proofs.lemmas.List.Elements.{All-contains, Contains-get_or}
 use Rattle.std.proofs.lemmas.List.FromFn.{map-range_with_len_more}
 use Rattle.j_search.specs.declared.seeking.Side.{Side}
 use Rattle.j_search.specs.declared.seeking.Side.TheVariants.{First, Last}
-use Rattle.j_search.specs.declared.tabled.Range.{Range}
+use Rattle.j_search.specs.declared.numbered.Range.{Range}
 use Rattle.j_search.specs.Matching.{places}
 use Rattle.j_search.specs.Sought.{run, place_of, run_places}
-use Rattle.j_search.specs.Tabled.{IsBetween, LiesIn, IsTable, number_place}
+use Rattle.j_search.specs.Ranged.{IsBetween, LiesIn}
+use Rattle.j_search.specs.Tabled.{IsTable, number_place}
 use Rattle.j_search.proofs.Keeping.{int_same, int_other}
 use Rattle.j_search.proofs.Picks.{keep, filter_more, none_place, place_same}
 
@@ -112,7 +113,7 @@ read_at side r zs table z place (negsuc m) t all there beyond e =
     beyond (λ v l q. omega (arith, ints, e, q))
     ∙ ap pos (none_place side (λ j. int_eq (get_or zs j (pos 0)) z) (length zs) (λ j l. int_other (get_or zs j (pos 0)) z (λ q. let h = all j l in omega (arith, ints, e, q, h.low))))
 
-one_run : {X : Type 0} (xs : List X) (j : ℕ) (d : X) → j < length xs → run 1 xs j ≡ get_or xs j d ∷ []
+pub one_run : {X : Type 0} (xs : List X) (j : ℕ) (d : X) → j < length xs → run 1 xs j ≡ get_or xs j d ∷ []
 one_run xs j d l = ap (λ i. take 1 (drop i xs)) (mul-one j) ∙ ap (take 1) (drop-cons xs j d l)
 
 and_true : (b : Bool) → (b && true) ≡ b
@@ -162,10 +163,37 @@ between_more value xs i x low high least most within is all l1 l2 h1 h2 = λ k d
     ])
 
 -- elements between the ends of a range lie in it
-pub range_all : {X : Type 0} (value : X → ℤ) (xs : List X) (low high : ℤ) (r : Option Range) → All (IsBetween value low high) xs → IfSome r (λ r. (r.low ≡ low) × (high <ℤ (r.low +ℤ pos r.width)) × (r.width < 9223372036854775808)) →
-    IfSome r (λ r. All (λ x. LiesIn r (value x)) xs × (r.width < 9223372036854775808))
-range_all value xs low high (Some r) all h = (
-  (λ k d l. let b = all k d l in record { low = omega (arith, ints, b.0, h.0); high = omega (arith, ints, b.1, h.1) }),
+pub between_lies : {X : Type 0} (value : X → ℤ) (xs : List X) (low high : ℤ) (r : Range) → All (IsBetween value low high) xs → r.low ≤ℤ low → high <ℤ (r.low +ℤ pos r.width) → All (λ x. LiesIn r (value x)) xs
+between_lies value xs low high r all l h = λ k d m. let b = all k d m in record { low = omega (arith, ints, b.0, l); high = omega (arith, ints, b.1, h) }
+
+pub range_all : {X : Type 0} (value : X → ℤ) (xs : List X) (low high : ℤ) (most : ℕ) (r : Option Range) → All (IsBetween value low high) xs → IfSome r (λ r. (r.low ≡ low) × (high <ℤ (r.low +ℤ pos r.width)) × (r.width ≤ most)) →
+    IfSome r (λ r. All (λ x. LiesIn r (value x)) xs × (r.width ≤ most))
+range_all value xs low high most (Some r) all h = (between_lies value xs low high r all (omega (arith, ints, h.0)) h.1, h.2)
+range_all value xs low high most None all h = tt
+
+pub range_both : {X : Type 0} (value : X → ℤ) (xs ys : List X) (low high least greatest from to : ℤ) (most : ℕ) (r : Option Range) → All (IsBetween value low high) xs → All (IsBetween value least greatest) ys →
+    from ≤ℤ low → from ≤ℤ least → high ≤ℤ to → greatest ≤ℤ to → IfSome r (λ r. (r.low ≡ from) × (to <ℤ (r.low +ℤ pos r.width)) × (r.width ≤ most)) →
+    IfSome r (λ r. All (λ x. LiesIn r (value x)) xs × All (λ x. LiesIn r (value x)) ys × (r.width ≤ most))
+range_both value xs ys low high least greatest from to most (Some r) all each l1 l2 h1 h2 h = (
+  between_lies value xs low high r all (omega (arith, ints, h.0, l1)) (omega (arith, ints, h.1, h1)),
+  between_lies value ys least greatest r each (omega (arith, ints, h.0, l2)) (omega (arith, ints, h.1, h2)),
   h.2,
 )
-range_all value xs low high None all h = tt
+range_both value xs ys low high least greatest from to most None all each l1 l2 h1 h2 h = tt
+
+-- a range that isn't wider than so much
+pub range_within : {X : Type 0} (value : X → ℤ) (xs : List X) (most bound : ℕ) (r : Option Range) → most < bound → IfSome r (λ r. All (λ x. LiesIn r (value x)) xs × (r.width ≤ most)) →
+    IfSome r (λ r. All (λ x. LiesIn r (value x)) xs × (r.width < bound))
+range_within value xs most bound (Some r) below h = (h.0, omega (arith, h.1))
+range_within value xs most bound None below h = tt
+
+pub range_few : {X : Type 0} (value : X → ℤ) (xs : List X) (most limit : ℕ) (r : Option Range) → length xs ≤ limit → IfSome r (λ r. All (λ x. LiesIn r (value x)) xs × (r.width ≤ most)) →
+    IfSome r (λ r. (length xs ≤ limit) × All (λ x. LiesIn r (value x)) xs × (r.width ≤ most))
+range_few value xs most limit (Some r) few h = (few, h.0, h.1)
+range_few value xs most limit None few h = tt
+
+pub range_both_few : {X : Type 0} (value : X → ℤ) (xs ys : List X) (most limit : ℕ) (r : Option Range) → length xs ≤ limit → length ys ≤ limit →
+    IfSome r (λ r. All (λ x. LiesIn r (value x)) xs × All (λ x. LiesIn r (value x)) ys × (r.width ≤ most)) →
+    IfSome r (λ r. (length xs ≤ limit) × (length ys ≤ limit) × All (λ x. LiesIn r (value x)) xs × All (λ x. LiesIn r (value x)) ys × (r.width ≤ most))
+range_both_few value xs ys most limit (Some r) few many h = (few, many, h.0, h.1, h.2)
+range_both_few value xs ys most limit None few many h = tt

@@ -37,8 +37,11 @@ IsKeyed size xs p = p.0.now ≡ run size xs p.1
 abbrev pub IsKeyedBack : {X : Type 0} → ℕ → List X → Reverse (Bor (List X)) × ℕ → Type 0
 IsKeyedBack size xs p = p.0.0.now ≡ run size xs p.1
 
--- all places of so many runs, in the ascending order of the runs, and equal ones in their own
-pub record IsAscending {X : Type 0} (C : X → X → Ordering) (size n : ℕ) (xs : List X) (ks : List ℕ) : Type 0 where
+-- all places of so many runs, in the order of the runs, and equal ones in their own
+pub record IsInOrder {X : Type 0} (C : X → X → Ordering) (d : Direction) (size n : ℕ) (xs : List X) (ks : List ℕ) : Type 0 where
   pub moved : IsPermutation (places n) ks
-  pub sorted : IsSortedBy (λ i j. is_lt (run_cmp C Up size xs i j)) ks
+  pub sorted : IsSortedBy (λ i j. is_lt (run_cmp C d size xs i j)) ks
   pub within : All (λ k. k < n) ks
+
+abbrev pub IsAscending : {X : Type 0} → (X → X → Ordering) → ℕ → ℕ → List X → List ℕ → Type 0
+IsAscending C size n xs ks = IsInOrder C Up size n xs ks

@@ -6,5 +6,7 @@ pub mod Order
 pub mod Graded
 pub mod Rows
 pub mod Searched
+pub mod Ranged
 pub mod Tabled
+pub mod Packed
 pub mod Numbers

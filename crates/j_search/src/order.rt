@@ -2,9 +2,11 @@
 ghost use Rattle.std.specs.Prelude.{◌≡◌, ◌<◌, ◌*◌, length, IfOk};
 ghost use Rattle.std.specs.List.{All};
 ghost use Rattle.std.specs.List.Sorted.{IsPermutation, IsSorted};
-ghost use Rattle.j_search.specs.Graded.{run_order, places_with, pair_cmp, IsAscending, IsKeyed, IsKeyedBack};
+ghost use Rattle.j_search.specs.Graded.{run_order, places_with, pair_cmp, IsInOrder, IsKeyed, IsKeyedBack};
 ghost use Rattle.j_search.specs.Matching.{places};
 
+use crate::numbered::Numbered;
+use crate::packed::{packed_order, packed_range};
 use j_noun::{NoMemory, Pool};
 use j_rank::part;
 use std::cmp::Reverse;
@@ -79,23 +81,52 @@ fn places_with<K: Drop>(pool: &mut Pool, keys: &[(K, usize)]) -> Result<Vec<usiz
     Ok(places)
 }
 
-/// The places of runs in ascending order, equal ones in theirs.
-pub fn ascending<T: Ord>(
+// The places of runs in order, equal ones in theirs, by slices.
+fn order_of_runs<T: Ord>(
     pool: &mut Pool,
+    direction: Direction,
     all: &[T],
     count: usize,
     size: usize,
 ) -> Result<Vec<usize>, NoMemory>
     requires { length all.now ≡ count * size }
-    ensures { IfOk result (λ v. IsAscending T.cmp size count all.now v.items) }
+    ensures { IfOk result (λ v. IsInOrder T.cmp direction size count all.now v.items) }
 {
-    let keys = keyed_up(pool, all, count, size)?;
-    let ordered = sorted(keys);
-    places_with(pool, &ordered)
+    match direction {
+        Direction::Up => {
+            let keys = keyed_up(pool, all, count, size)?;
+            let ordered = sorted(keys);
+            places_with(pool, &ordered)
+        }
+        Direction::Down => {
+            let back = keyed_down(pool, all, count, size)?;
+            let turned = sorted(back);
+            places_with(pool, &turned)
+        }
+    }
 }
 
 /// The places of runs in order, equal ones in theirs.
-pub fn graded<T: Ord>(
+pub fn in_order<T: Numbered>(
+    pool: &mut Pool,
+    direction: Direction,
+    all: &[T],
+    count: usize,
+    size: usize,
+) -> Result<Vec<usize>, NoMemory>
+    requires { length all.now ≡ count * size }
+    ensures { IfOk result (λ v. IsInOrder T.cmp direction size count all.now v.items) }
+{
+    if size == 1 {
+        if let Some(range) = packed_range(all) {
+            return packed_order(pool, direction, range, all);
+        }
+    }
+    order_of_runs(pool, direction, all, count, size)
+}
+
+/// The places of runs in order, equal ones in theirs, as they are counted.
+pub fn graded<T: Numbered>(
     pool: &mut Pool,
     direction: Direction,
     all: &[T],
@@ -106,12 +137,5 @@ pub fn graded<T: Ord>(
     ensures order { IfOk result (λ v. v.items ≡ run_order T.cmp direction size count all.now) }
     ensures within { IfOk result (λ v. All (λ k. k < count) v.items) }
 {
-    match direction {
-        Direction::Up => ascending(pool, all, count, size),
-        Direction::Down => {
-            let back = keyed_down(pool, all, count, size)?;
-            let turned = sorted(back);
-            places_with(pool, &turned)
-        }
-    }
+    in_order(pool, direction, all, count, size)
 }

@@ -6,14 +6,15 @@ ghost use Rattle.j_search.specs.Graded.{IsAscending};
 ghost use Rattle.j_search.specs.Searched.{comes_before, run_before, IsBoundary};
 ghost use Rattle.j_search.specs.Sought.{run, place_of, run_places};
 
-use crate::order::ascending;
+use crate::numbered::Numbered;
+use crate::order::{Direction, in_order};
 use crate::seeking::{Side, Sizes};
 use j_noun::{NoMemory, Pool};
 use j_rank::{filled, part};
 use std::cmp::Ordering;
 
-// Whether a run of that order comes before the wanted one.
-fn comes_before(side: Side, order: Ordering) -> bool
+/// Whether a run of that order comes before the wanted one.
+pub fn comes_before(side: Side, order: Ordering) -> bool
     ensures { result ≡ comes_before side order }
 {
     match side {
@@ -142,7 +143,7 @@ fn enter_in_order<T: Ord>(
 }
 
 /// The place of each cell among the items, by going through both in order.
-pub fn find_each_in_order<T: Ord>(
+pub fn find_each_in_order<T: Numbered>(
     pool: &mut Pool,
     side: Side,
     sizes: Sizes,
@@ -154,8 +155,8 @@ pub fn find_each_in_order<T: Ord>(
     requires few { sizes.items ≤ 4194304 }
     ensures { IfOk result (λ v. v.items ≡ run_places T.eq side sizes.size sizes.items sizes.cells items.now cells.now) }
 {
-    let order = ascending(pool, items, sizes.items, sizes.size)?;
-    let turns = ascending(pool, cells, sizes.cells, sizes.size)?;
+    let order = in_order(pool, Direction::Up, items, sizes.items, sizes.size)?;
+    let turns = in_order(pool, Direction::Up, cells, sizes.cells, sizes.size)?;
     let mut places = filled(pool, &0, sizes.cells)?;
     enter_in_order(&mut places, side, sizes.size, items, &order, cells, &turns);
     Ok(places)

@@ -1,118 +1,23 @@
 // The places of numbers that lie in a small range, by a table of all of its numbers.
-ghost use Rattle.std.specs.Prelude.{◌≡◌, ◌<◌, ◌≤◌, ◌*◌, ◌^◌, ℕ, ℤ, pos, ◌+ℤ◌, ◌≤ℤ◌, ◌<ℤ◌, cond, length, map, slice_index_or, IfOk, IfSome, MatchOption};
+ghost use Rattle.std.specs.Prelude.{◌≡◌, ◌<◌, ◌≤◌, ◌*◌, ◌^◌, ℕ, ℤ, pos, ◌+ℤ◌, ◌<ℤ◌, cond, length, map, slice_index_or, IfOk, IfSome, MatchOption};
 ghost use Rattle.std.specs.List.{All};
 ghost use Rattle.std.specs.Ordering.{int_eq};
 ghost use Rattle.j_search.specs.declared.seeking.Side.TheVariants.{First, Last};
 ghost use Rattle.j_search.specs.Sought.{run_places};
-ghost use Rattle.j_search.specs.Tabled.{IsBetween, LiesIn, IsTable};
+ghost use Rattle.j_search.specs.Ranged.{LiesIn};
+ghost use Rattle.j_search.specs.Tabled.{IsTable};
 
-use crate::seeking::{Key, Side};
+use crate::numbered::{Numbered, Range, range_of};
+use crate::seeking::Side;
 use j_noun::{NoMemory, Pool};
 use j_rank::filled;
-
-/// Whole numbers from a lowest one on.
-#[derive(Clone, Copy)]
-pub struct Range {
-    pub low: i64,
-    pub width: usize,
-}
-
-/// An element that is a whole number.
-pub trait Numbered: Key + Ord {
-    ghost use Rattle.std.specs.Prelude.{◌≡◌, ℤ};
-    ghost use Rattle.std.specs.Ordering.{int_eq};
-
-    ghost number: { Self → ℤ };
-
-    fn number(&self) -> i64
-        ensures { result ≡ number self.now };
-
-    ghost alike: { Self.same ≡ Self.eq };
-
-    ghost by_number: { (x y : Self) → Self.same x y ≡ int_eq (number x) (number y) };
-}
-
-impl Numbered for i64 {
-    ghost use Rattle.std.specs.Prelude.{refl};
-
-    ghost number = { λ z. z };
-
-    ghost alike = { refl };
-
-    ghost by_number = { λ x y. refl };
-
-    fn number(&self) -> i64 {
-        *self
-    }
-}
-
-impl Numbered for u8 {
-    ghost use Rattle.std.specs.Prelude.{pos, refl};
-    ghost use Rattle.j_search.specs.Numbers.{same_number};
-
-    ghost number = { pos };
-
-    ghost alike = { refl };
-
-    ghost by_number = { same_number };
-
-    fn number(&self) -> i64 {
-        i64::from(*self)
-    }
-}
-
-// The lesser and the greater of two numbers.
-fn lesser(a: i64, b: i64) -> i64
-    ensures left { result ≤ℤ a }
-    ensures right { result ≤ℤ b }
-{
-    if a < b { a } else { b }
-}
-
-fn greater(a: i64, b: i64) -> i64
-    ensures left { a ≤ℤ result }
-    ensures right { b ≤ℤ result }
-{
-    if a < b { b } else { a }
-}
-
-// The least and the greatest number.
-fn bounds<T: Numbered>(items: &[T]) -> (i64, i64)
-    ensures { All (IsBetween T.number result.0 result.1) items.now }
-{
-    let mut low = i64::MAX;
-    let mut high = i64::MIN;
-    for item in items {
-        let number = item.number();
-        low = lesser(low, number);
-        high = greater(high, number);
-    }
-    (low, high)
-}
-
-// The range from the first of two numbers to the second, where it isn't wider than so much.
-fn range_between(ends: (i64, i64), most: i64) -> Option<Range>
-    ensures { IfSome result (λ r. (r.low ≡ ends.0) × (ends.1 <ℤ (r.low +ℤ pos r.width)) × (r.width < 2 ^ 63)) }
-{
-    let (low, high) = ends;
-    let span = high.checked_sub(low)?;
-    if 0 <= span && span < most {
-        Some(Range {
-            low,
-            width: span as usize + 1,
-        })
-    } else {
-        None
-    }
-}
 
 /// The range of the items, where it isn't much larger than their count.
 pub fn narrow_range<T: Numbered>(items: &[T]) -> Option<Range>
     requires { length items.now ≤ 4194304 }
     ensures { IfSome result (λ r. All (λ x. LiesIn r (T.number x)) items.now × (r.width < 2 ^ 63)) }
 {
-    let ends = bounds(items);
-    range_between(ends, 4 * items.len() as i64 + 256)
+    range_of(items, 4 * items.len() + 256)
 }
 
 // Where a number stands in a range.

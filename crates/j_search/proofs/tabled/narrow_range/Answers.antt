@@ -1,5 +1,6 @@
-use Rattle.j_search.proofs.Tables.{range_all}
+use Rattle.std.proofs.Common.{arith}
+use Rattle.j_search.proofs.Tables.{range_within}
 use Rattle.j_search.proofs.tabled.narrow_range.Goals as goal
 
 pub returns : goal.returns
-returns g c = range_all g.T.Numbered.number c.args.items.now c.bounds-ends.result.0 c.bounds-ends.result.1 c.range_between.result c.bounds-ends.ensures c.range_between.ensures
+returns g c = range_within g.T.Numbered.number c.args.items.now _ 9223372036854775808 c.range_of.result (omega (arith, c.requires)) c.range_of.ensures

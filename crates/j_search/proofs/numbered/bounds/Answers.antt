@@ -1,9 +1,9 @@
 use Rattle.std.proofs.Common.{arith, take_all, subst, to_z, of_z, w64}
 use Rattle.std.specs.List.{All}
 use Rattle.std.proofs.lemmas.Int.{ints}
-use Rattle.j_search.specs.Tabled.{IsBetween}
+use Rattle.j_search.specs.Ranged.{IsBetween}
 use Rattle.j_search.proofs.Tables.{between_more}
-use Rattle.j_search.proofs.tabled.bounds.Goals as goal
+use Rattle.j_search.proofs.numbered.bounds.Goals as goal
 
 pub loop-item-preserved : goal.loop-item-preserved
 loop-item-preserved g c =
