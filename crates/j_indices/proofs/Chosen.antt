@@ -2,7 +2,7 @@
 use Rattle.std.proofs.Common.{◌≡◌, ◌<◌, ◌≤◌, ◌+◌, ◌-◌, ◌*◌, ◌/◌, ℕ, ℤ, pos, unsigned_abs, List, [], ◌∷◌, ◌++◌, length, map, take, drop, get_or, arith, refl, sym, ap, ◌∙◌, add_assoc, append_assoc, Err}
 use Prim.Native.Nat.{zero, suc}
 use Rattle.std.specs.List.{flat_map, range_with_len}
-use Rattle.std.proofs.Math.Nat.{mul-div_cancel_left}
+use Rattle.std.proofs.Math.Nat.{mul-div_cancel_left, mul-le-mul_left, mul_comm}
 use Rattle.std.proofs.lemmas.List.{map-append, length-append, length-map, drop_more, take_rest, nil_from_length}
 use Rattle.std.proofs.lemmas.List.FromFn.{length-map-range_with_len, map-range_with_len_more}
 use Rattle.j_definitions.specs.Array.{product, number}
@@ -57,16 +57,49 @@ integers_more start z rest step k at out mid new e before more =
     more ∙ ap (λ n. mid ++ integers_from (start + n * step) rest) e ∙ ap (λ r. r ++ piece k) before ∙ append_assoc out (parts start z rest step k) (piece k)
     ∙ ap (λ r. out ++ r) (sym (pieces_more piece k))
 
+-- along one axis
+pub axis_more : (start k at n : ℕ) (z : ℤ) (out mid new : List ℤ) → at ≡ turned z k → n ≡ start + at → mid ≡ out ++ parts start z [] 1 k → new ≡ mid ++ pos n ∷ [] → new ≡ out ++ parts start z [] 1 (k + 1)
+axis_more start k at n z out mid new e is before more =
+    let one : n ≡ start + at * 1 + 0 = omega (arith, is) in
+    integers_more start z [] 1 k at out mid new e before (more ∙ ap (λ m. mid ++ pos m ∷ []) one)
+
+pub axis_all : (start k : ℕ) (z : ℤ) (out mid : List ℤ) → k ≡ unsigned_abs z → mid ≡ out ++ parts start z [] 1 k → mid ≡ out ++ integers_from start (z ∷ [])
+axis_all start k z out mid ended before = before ∙ ap (λ n. out ++ parts start z [] 1 n) ended ∙ ap (λ r. out ++ r) (sym (integers_parts start z []))
+
+-- the one axis is not beyond the product
+pub axis_fits : (start size : ℕ) (z : ℤ) (zs : List ℤ) → zs ≡ z ∷ [] → size ≡ product (shape_along zs) → start + size ≤ 4194304 → start + unsigned_abs z ≤ 4194304
+axis_fits start size z zs split e few = omega (arith, e, few, ap (λ ys. product (shape_along ys)) split)
+
 pub factor_left : (p q n : ℕ) → n ≡ p * q → 0 < n → 0 < p
 factor_left zero q n e some = absurd (omega arith)
 factor_left (suc p) q n e some = omega arith
 
+factor_right : (p q n : ℕ) → n ≡ p * q → 0 < n → 0 < q
+factor_right p zero n e some = absurd (omega arith)
+factor_right p (suc q) n e some = omega arith
+
+-- the product of the axes behind the first
+pub step_is : (size count : ℕ) (z : ℤ) (rest zs : List ℤ) → zs ≡ z ∷ rest → size ≡ product (shape_along zs) → 0 < size → count ≡ unsigned_abs z → size / count ≡ product (shape_along rest)
+step_is size count z rest zs split e some count_is =
+    let whole : size ≡ unsigned_abs z * product (shape_along rest) = e ∙ ap (λ ys. product (shape_along ys)) split in
+    ap (λ n. size / n) count_is ∙ ap (λ n. n / unsigned_abs z) whole ∙ mul-div_cancel_left (product (shape_along rest)) (factor_left (unsigned_abs z) (product (shape_along rest)) size whole some)
+
+pub size_parts : (size count : ℕ) (z : ℤ) (rest zs : List ℤ) → zs ≡ z ∷ rest → size ≡ product (shape_along zs) → 0 < size → count ≡ unsigned_abs z → size ≡ count * (size / count)
+size_parts size count z rest zs split e some count_is =
+    e ∙ ap (λ ys. product (shape_along ys)) split ∙ ap (λ n. n * product (shape_along rest)) (sym count_is) ∙ ap (λ p. count * p) (sym (step_is size count z rest zs split e some count_is))
+
+pub step_some : (size count : ℕ) → size ≡ count * (size / count) → 0 < size → 0 < size / count
+step_some size count e some = factor_right count (size / count) size e some
+
+pub step_fits : (start size count at step : ℕ) → size ≡ count * step → at < count → start + size ≤ 4194304 → start + at * step + step ≤ 4194304
+step_fits start size count at step e h few =
+    let next : at + 1 ≤ count = omega arith in
+    omega (arith, e, few, mul-le-mul_left step next, mul_comm step count, mul_comm step (at + 1))
+
 pub integers_all : (start size count k : ℕ) (z : ℤ) (rest zs : List ℤ) (out mid : List ℤ) → zs ≡ z ∷ rest → size ≡ product (shape_along zs) → 0 < size → count ≡ unsigned_abs z → k ≡ count →
     mid ≡ out ++ parts start z rest (size / count) k → mid ≡ out ++ integers_from start zs
 integers_all start size count k z rest zs out mid split e some count_is ended before =
-    let whole : size ≡ unsigned_abs z * product (shape_along rest) = e ∙ ap (λ ys. product (shape_along ys)) split in
-    let step : size / count ≡ product (shape_along rest) =
-    ap (λ n. size / n) count_is ∙ ap (λ n. n / unsigned_abs z) whole ∙ mul-div_cancel_left (product (shape_along rest)) (factor_left (unsigned_abs z) (product (shape_along rest)) size whole some) in
+    let step : size / count ≡ product (shape_along rest) = step_is size count z rest zs split e some count_is in
     before ∙ ap (λ n. out ++ parts start z rest n k) step ∙ ap (λ n. out ++ parts start z rest (product (shape_along rest)) n) (ended ∙ count_is)
     ∙ ap (λ r. out ++ r) (sym (integers_parts start z rest) ∙ ap (integers_from start) (sym split))
 
@@ -100,3 +133,7 @@ pub placed_more : (f : ℕ → ℤ) (k : ℕ) (old new : List ℤ) (z : ℤ) →
 placed_more f k old new z before e more =
     ap (map number) more ∙ map-append number old (z ∷ []) ∙ ap (λ r. r ++ number z ∷ []) before ∙ ap (λ w. map (λ j. number (f j)) (range_with_len 0 k) ++ number w ∷ []) e
     ∙ sym (map-range_with_len_more (λ j. number (f j)) 0 k k (omega arith))
+
+-- a list whose rest is empty
+pub only_first : {X Y : Type 0} (f : X → Y) (s : List X) (x : X) → 1 ≤ length s → x ≡ get_or s 0 x → length (rest_of s) ≡ 0 → map f s ≡ f x ∷ []
+only_first f s x h is none = ap (map f) (at_first s x h is) ∙ ap (λ r. f x ∷ map f r) (nil_from_length (rest_of s) none)

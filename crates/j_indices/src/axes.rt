@@ -144,7 +144,7 @@ fn chosen_places(
     ensures { IfOk result (λ v. v.items ≡ places_from 0 axes.now (map (λ w. w.items) taken.now)) }
 {
     let Some(size) = size_within(axes) else {
-        return Err(NoMemory);
+        unreachable!();
     };
     let mut places = pool.fresh(count)?;
     append_places(&mut places, axes, taken, size, 0)?;

@@ -1,5 +1,5 @@
 // Numbers in order.
-ghost use Rattle.std.specs.Prelude.{◌≡◌, ◌<◌, ◌≤◌, ◌+◌, ◌*◌, ◌++◌, [], pos, length, map, unsigned_abs, OnOk, IfOk, IfErr, MatchOption, Err as ErrValue};
+ghost use Rattle.std.specs.Prelude.{◌≡◌, ◌<◌, ◌≤◌, ◌+◌, ◌*◌, ◌++◌, [], ◌∷◌, pos, length, map, unsigned_abs, OnOk, IfOk, IfErr, MatchOption, Err as ErrValue};
 ghost use Rattle.std.specs.List.{range_with_len};
 ghost use Rattle.j_definitions.specs.Array.{product, number};
 ghost use Rattle.j_definitions.specs.Cells.{atom_at};
@@ -38,6 +38,20 @@ fn turned(length: i64, k: usize) -> usize
     }
 }
 
+// Appends the integers along one axis, from a number on.
+fn append_axis(out: &mut Vec<i64>, length: i64, start: usize) -> Result<(), NoMemory>
+    requires { start + unsigned_abs length ≤ 4194304 }
+    ensures { OnOk result (out.new.items ≡ out.old.items ++ integers_from start (length ∷ [])) }
+{
+    for k in 0..length.unsigned_abs() as usize {
+        let number = start + turned(length, k);
+        let Ok(()) = out.push(number as i64) else {
+            return Err(NoMemory);
+        };
+    }
+    Ok(())
+}
+
 // Appends the integers along axes of these lengths, from a number on.
 fn append_integers<N: Whole>(
     out: &mut Vec<i64>,
@@ -57,6 +71,9 @@ fn append_integers<N: Whole>(
         return Ok(());
     };
     let length = first.whole();
+    if rest.is_empty() {
+        return append_axis(out, length, start);
+    }
     let count = length.unsigned_abs() as usize;
     let step = size / count;
     for k in 0..count {
