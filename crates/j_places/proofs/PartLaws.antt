@@ -2,7 +2,7 @@
 use Rattle.std.proofs.Common.{◌≡◌, ◌<◌, ◌≤◌, ◌+◌, ◌-◌, ◌*◌, ℕ, List, [], ◌∷◌, ◌++◌, length, map, take, drop, reverse, get_or, arith, refl, sym, ap, ◌∙◌}
 use Prim.Native.Nat.{zero, suc}
 use Rattle.std.specs.List.{All, flat_map, range_with_len}
-use Rattle.std.proofs.lemmas.List.{take-map, drop-map, map-append, take-append-drop, drop-drop, drop-take, take-take, take_more, take_all, get_or-reverse, length-reverse, append-nil, append_assoc}
+use Rattle.std.proofs.lemmas.List.{take-map, drop-map, map-append, take-append-drop, drop-drop, drop-take, take-take, take_more, drop_more, take_all, get_or-reverse, length-reverse, append-nil, append_assoc}
 use Rattle.std.proofs.lemmas.List.Concat.{flat_map-append}
 use Rattle.std.proofs.lemmas.List.FromFn.{length-range_with_len, get_or-range_with_len}
 use Rattle.std.proofs.lemmas.List.Elements.{All-nil, All-append, All-take, All-drop}
@@ -25,7 +25,7 @@ All-parts_at P size xs (k ∷ ks) h =
     All-append P (take size (drop (k * size) xs)) (parts_at size xs ks) (All-take P size (drop (k * size) xs) (All-drop P (k * size) xs h)) (All-parts_at P size xs ks h)
 
 -- neighbouring parts make a run
-split_at : {X : Type 0} (xs : List X) (m n : ℕ) → take m xs ++ take n (drop m xs) ≡ take (m + n) xs
+pub split_at : {X : Type 0} (xs : List X) (m n : ℕ) → take m xs ++ take n (drop m xs) ≡ take (m + n) xs
 split_at xs m n =
     ap (λ r. take m xs ++ r) (sym (drop-take m n xs)) ∙ ap (λ r. r ++ drop m (take (m + n) xs)) (sym (take-take m (m + n) xs (omega arith)))
     ∙ take-append-drop m (take (m + n) xs)
@@ -65,6 +65,12 @@ reversed_more size xs out new run count k h is before =
     ∙ ap (λ j. parts_at size xs (take k back) ++ (take size (drop (j * size) xs) ++ [])) (sym at)
     ∙ sym (flat_map-append (λ j. take size (drop (j * size) xs)) (take k back) (get_or back k 0 ∷ []))
     ∙ ap (parts_at size xs) (sym (take_more back k 0 (omega (arith, many)))))
+
+-- one element as a part
+pub part_of_one : {X : Type 0} (xs : List X) (j : ℕ) (x : X) → j < length xs → x ≡ get_or xs j x → x ∷ [] ≡ take 1 (drop (j * 1) xs)
+part_of_one xs j x h is =
+    let same : j * 1 ≡ j = omega arith in
+    ap (λ w. w ∷ []) is ∙ sym (ap (take 1) (drop_more xs j x h)) ∙ sym (ap (λ i. take 1 (drop i xs)) same)
 
 pub reversed_all : {X : Type 0} (size : ℕ) (xs : List X) (count k : ℕ) → count ≤ k → parts_at size xs (take k (reverse (range_with_len 0 count))) ≡ parts_at size xs (reverse (range_with_len 0 count))
 reversed_all size xs count k h = ap (parts_at size xs) (take_all k (reverse (range_with_len 0 count)) (omega (arith, length-reverse (range_with_len 0 count), length-range_with_len 0 count)))

@@ -59,7 +59,7 @@ fn reshaped(pool: &mut Pool, y: &Noun, shape: Shape) -> Result<Noun, Refusal>
 {
     let atoms = y.view();
     let Some(size) = size_within(y.axes()) else {
-        return Err(Refusal::NoMemory);
+        unreachable!();
     };
     let copy = atoms_of_run(pool, atoms, 0, size)?;
     Noun::make(pool, shape, copy)
@@ -94,7 +94,7 @@ pub fn ravel(pool: &mut Pool, y: &Noun) -> Result<Noun, Refusal>
 {
     let _ = y.view();
     let Some(size) = size_within(y.axes()) else {
-        return Err(Refusal::NoMemory);
+        unreachable!();
     };
     reshaped(pool, y, shape_of_axes(&[size]))
 }
@@ -226,6 +226,17 @@ fn append_reversed<T: Stored>(
     Ok(())
 }
 
+// Appends the elements in reverse.
+fn append_backwards<T: Stored>(out: &mut Vec<T>, all: &[T], count: usize) -> Result<(), NoMemory>
+    requires { count ≤ length all.now }
+    ensures { OnOk result (out.new.items ≡ out.old.items ++ parts_at 1 all.now (reverse (range_with_len 0 count))) }
+{
+    for k in 0..count {
+        T::append_one(out, &all[count - 1 - k])?;
+    }
+    Ok(())
+}
+
 // The parts of one size in reverse.
 fn reversed<T: Stored>(
     pool: &mut Pool,
@@ -237,7 +248,11 @@ fn reversed<T: Stored>(
     ensures { IfOk result (λ v. v.items ≡ parts_at size all.now (reverse (range_with_len 0 count))) }
 {
     let mut out = T::buffer(pool, all.len())?;
-    append_reversed(&mut out, all, count, size)?;
+    if size == 1 {
+        append_backwards(&mut out, all, count)?;
+    } else {
+        append_reversed(&mut out, all, count, size)?;
+    }
     Ok(out)
 }
 
