@@ -5,3 +5,4 @@ pub mod AxisLaws
 pub mod KeptLaws
 pub mod KeptSteps
 pub mod KeepLaws
+pub mod ReverseLaws

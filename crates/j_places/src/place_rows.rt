@@ -1,6 +1,6 @@
 // Verbs that keep items and axes in other places, worked out by hand.
-ghost use Rattle.std.specs.Prelude.{◌≡◌, ◌≤◌, ◌∷◌, ◌++◌, [], ℕ, ℤ, List, length, pos, Ok as OkValue, Err as ErrValue};
-ghost use Rattle.j_definitions.specs.Array.{Atom};
+ghost use Rattle.std.specs.Prelude.{◌≡◌, ◌<◌, ◌≤◌, ◌∷◌, ◌++◌, [], ℕ, ℤ, List, length, pos, Ok as OkValue, Err as ErrValue};
+ghost use Rattle.j_definitions.specs.Array.{Array, Atom, IsNoun};
 ghost use Rattle.j_definitions.specs.declared.Fault.TheVariants.{Domain, Length, Limit};
 ghost use Rattle.j_rank.specs.Rows.{numbers_in, bytes_in, boxes_in};
 ghost use Rattle.j_places.specs.ItemPlaces as item;
@@ -128,8 +128,9 @@ pub fn worked_rotations()
     ensures by_characters { axis.rotate_axes text list ≡ ErrValue Domain }
 {}
 
-/// Laws: what is taken and what is dropped make the list, and rotation keeps its length.
+/// Laws: what is taken and what is dropped make the list, rotation keeps its length, and items turned twice are as they were.
 pub fn place_laws()
     ensures taken_and_left { (k : ℕ) (z : Atom) (xs : List Atom) → k ≤ length xs → axis.taken (pos k) z xs ++ axis.dropped (pos k) xs ≡ xs }
     ensures rotated_length { (k : ℤ) (xs : List Atom) → length (axis.rotated k xs) ≡ length xs }
+    ensures reversed_twice { (y r : Array) → IsNoun y → 0 < length y.shape → item.reversed y ≡ OkValue r → item.reversed r ≡ OkValue y }
 {}
