@@ -1,5 +1,5 @@
 -- Words of items and of cells, each in order, that are gone through side by side.
-use Rattle.std.proofs.Common.{◌≡◌, ◌<◌, ◌≤◌, ◌+◌, ◌-◌, ℕ, ℤ, Bool, true, false, ◌&&◌, cond, nat_eq, nat_lt, List, [], length, map, get_or, arith, refl, sym, ap, ◌∙◌}
+use Rattle.std.proofs.Common.{◌≡◌, ◌<◌, ◌≤◌, ◌-◌, ℕ, ℤ, Bool, true, false, ◌&&◌, cond, nat_eq, nat_lt, List, [], length, map, get_or, arith, refl, sym, ap, ◌∙◌}
 use Rattle.std.specs.List.{All}
 use Rattle.std.specs.Cmp.{IsTotalOrder, unsigned_ties}
 use Rattle.std.specs.declared.cmp.Ordering.{Ordering}
