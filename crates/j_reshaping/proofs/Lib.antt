@@ -5,3 +5,4 @@ pub mod Walks
 pub mod Orders
 pub mod Lasts
 pub mod Counting
+pub mod ShapeLaw

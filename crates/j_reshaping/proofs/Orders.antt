@@ -1,9 +1,9 @@
 -- Orders of axes.
-use Rattle.std.proofs.Common.{◌≡◌, ◌<◌, ◌≤◌, ◌+◌, ◌-◌, ◌*◌, ℕ, Bool, true, false, nat_eq, cond, List, [], ◌∷◌, length, map, drop, take, get_or, reverse, arith, refl, sym, ap, ◌∙◌, subst, zero-mul}
+use Rattle.std.proofs.Common.{◌≡◌, ◌<◌, ◌≤◌, ◌+◌, ◌-◌, ◌*◌, ℕ, Bool, nat_eq, cond, List, [], ◌∷◌, length, map, drop, get_or, reverse, arith, refl, sym, ap, ◌∙◌, subst, zero-mul}
 use Prim.Native.Nat.{zero, suc}
 use Rattle.std.specs.List.{All, sum_by, range_with_len}
 use Rattle.std.proofs.Math.Dec.{eqb-suc-zero}
-use Rattle.std.proofs.lemmas.List.{drop_more, drop_all, take_rest, length-map, length-reverse, get_or-reverse, same_lists, nil_from_length}
+use Rattle.std.proofs.lemmas.List.{drop_more, drop_all, length-map, length-reverse, get_or-reverse, same_lists, nil_from_length}
 use Rattle.std.proofs.lemmas.List.FromFn.{length-range_with_len, get_or-range_with_len, length-map-range_with_len, get_or-map-range_with_len}
 use Rattle.std.proofs.lemmas.List.Elements.{All-nil, All-cons}
 use Rattle.std.proofs.lemmas.List.Sums.{sum_by-cons}

@@ -3,7 +3,6 @@ use Rattle.std.proofs.Common.{◌≡◌, ◌<◌, ◌≤◌, ◌*◌, ℕ, Bool,
 use Prim.Native.Nat.{zero, suc}
 use Rattle.std.specs.List.{list_any}
 use Rattle.std.proofs.Math.Dec.{eqb-suc-zero}
-use Rattle.std.proofs.lemmas.List.{length-map}
 use Rattle.j_definitions.specs.Array.{Array, Atom, byte, boxed, product, tally, IsNoun, IsWithin}
 use Rattle.j_definitions.specs.Cells.{in_order}
 use Rattle.j_definitions.specs.Items.{item_size}

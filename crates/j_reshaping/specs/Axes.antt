@@ -1,5 +1,5 @@
 -- The axes of a noun in another order.
-use Rattle.std.specs.Prelude.{ℕ, ℤ, ◌+◌, ◌*◌, ◌+ℤ◌, pos, negsuc, Bool, true, false, ◌||◌, not, nat_eq, nat_lt, cond, List, [], ◌∷◌, ◌++◌, length, map, drop, reverse, Result, Ok, Err}
+use Rattle.std.specs.Prelude.{ℕ, ℤ, ◌+◌, ◌*◌, ◌+ℤ◌, pos, negsuc, Bool, false, ◌||◌, not, nat_eq, nat_lt, cond, List, [], ◌∷◌, ◌++◌, length, map, drop, reverse, Result, Ok, Err}
 use Rattle.std.specs.List.{flat_map, filter, list_any, range_with_len}
 use Rattle.std.specs.Ordering.{int_eq}
 use lib.ListN.{get_or}

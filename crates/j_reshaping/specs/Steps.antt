@@ -1,5 +1,5 @@
 -- Elements in equal steps, and orders of axes, for the crate's own functions.
-use Rattle.std.specs.Prelude.{◌≡◌, ℕ, ◌+◌, ◌-◌, ◌*◌, ◌<◌, List, [], ◌∷◌, map, take, drop}
+use Rattle.std.specs.Prelude.{◌≡◌, ℕ, ◌+◌, ◌-◌, ◌*◌, ◌<◌, List, ◌∷◌, map, take, drop}
 use Rattle.std.specs.List.{All, flat_map, sum_by, range_with_len}
 use Rattle.j_definitions.specs.Array.{Atom}
 use Rattle.j_definitions.specs.Cells.{atom_at}

@@ -1,10 +1,12 @@
 // Shapes and axes worked out by hand.
-ghost use Rattle.std.specs.Prelude.{◌≡◌, ℕ, List, [], ◌∷◌, replicate, pos, negsuc};
+ghost use Rattle.std.specs.Prelude.{◌≡◌, ℕ, List, [], ◌∷◌, ◌++◌, drop, map, replicate, pos, negsuc};
+ghost use Rattle.j_definitions.specs.Array.{Array};
+ghost use Rattle.j_definitions.specs.Cells.{in_order};
 ghost use Rattle.j_definitions.specs.declared.Fault.TheVariants as fault;
 ghost use Rattle.j_rank.specs.Rows.{numbers_in, bytes_in, boxes_in};
 ghost use Rattle.j_reshaping.specs.AxisRows.{integers_in};
 ghost use Rattle.j_reshaping.specs.Axes.{places, transpose, transpose_by};
-ghost use Rattle.j_reshaping.specs.Reshaping.{reshape};
+ghost use Rattle.j_reshaping.specs.Reshaping.{length_of, reshape};
 
 /// Laws: the dyad of `$` worked out by hand.
 pub fn worked_reshapes()
@@ -34,6 +36,11 @@ pub fn worked_reshapes()
     ensures most_axes { reshape (numbers_in (32 ∷ []) (replicate 32 1)) (numbers_in [] (5 ∷ [])) ≡ Ok (numbers_in (replicate 32 1) (5 ∷ [])) }
     ensures long_axis_without_atoms { reshape (numbers_in (2 ∷ []) (0 ∷ 4194305 ∷ [])) (numbers_in [] (5 ∷ [])) ≡ Err fault.Limit }
     ensures longest_axis_without_atoms { reshape (numbers_in (2 ∷ []) (0 ∷ 4194304 ∷ [])) (numbers_in [] (5 ∷ [])) ≡ Ok (numbers_in (0 ∷ 4194304 ∷ []) []) }
+{}
+
+/// Law: the shape of `x $ y` is x, followed by the item's shape.
+pub fn reshaping_laws()
+    ensures { (x y r : Array) (s : List ℕ) → in_order (map length_of x.atoms) ≡ Ok s → reshape x y ≡ Ok r → r.shape ≡ s ++ drop 1 y.shape }
 {}
 
 /// Laws: `|:` worked out by hand.

@@ -5,6 +5,6 @@ mod axis_rows;
 mod reshaping;
 mod transposing;
 
-pub use axis_rows::{worked_reshapes, worked_transpositions};
+pub use axis_rows::{reshaping_laws, worked_reshapes, worked_transpositions};
 pub use reshaping::reshape;
 pub use transposing::{transpose, transpose_by};

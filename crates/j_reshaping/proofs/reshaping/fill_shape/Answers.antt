@@ -1,4 +1,4 @@
-use Rattle.std.proofs.Common.{◌∙◌, ap}
+use Rattle.std.proofs.Common.{◌∙◌}
 use Rattle.j_definitions.specs.Array.{product}
 use Rattle.j_rank.proofs.Made.{answers_as}
 use Rattle.j_reshaping.proofs.Shapes.{wanted, size_of, past_atoms, filled_many, filled}

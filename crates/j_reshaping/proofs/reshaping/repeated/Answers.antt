@@ -1,4 +1,4 @@
-use Rattle.std.proofs.Common.{◌<◌, ◌≡◌, ◌∙◌, sym, pos, length}
+use Rattle.std.proofs.Common.{◌∙◌, sym, pos}
 use Rattle.j_definitions.specs.Array.{number, byte, boxed}
 use Rattle.j_reshaping.proofs.Reshapes.{repeated_atoms, repeated_bits, none_repeated, nothing_repeated, fills_are, no_atoms, some_atoms}
 use Rattle.j_reshaping.proofs.reshaping.repeated.Goals as goal

@@ -1,4 +1,4 @@
-use Rattle.std.proofs.Common.{◌≡◌, ◌∙◌, sym, ap, pos, get_or, w64, FitsSigned, rules, map, Ok, ℤ}
+use Rattle.std.proofs.Common.{◌∙◌, sym, ap, pos, get_or, w64, FitsSigned, rules, map, Ok}
 use Rattle.std.proofs.lemmas.Int.{to_z-of_z}
 use Rattle.j_reshaping.specs.Axes.{axis_of}
 use Rattle.j_reshaping.proofs.Orderly.{orderly_more, orderly_fault, orderly_all}

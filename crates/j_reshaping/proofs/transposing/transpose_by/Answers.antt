@@ -1,4 +1,4 @@
-use Rattle.std.proofs.Common.{◌∙◌, sym, ap, length, ℕ, ℤ, Ok, Vec, Global}
+use Rattle.std.proofs.Common.{◌∙◌, sym, ap, length, ℤ, Ok, Vec, Global}
 use Rattle.j_reshaping.proofs.Counting.{by_made, by_refused}
 use Rattle.j_reshaping.proofs.transposing.transpose_by.Goals as goal
 

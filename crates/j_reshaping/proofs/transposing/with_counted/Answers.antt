@@ -1,4 +1,4 @@
-use Rattle.std.proofs.Common.{◌∙◌, sym, ap, length, ℕ, ℤ, Ok, Vec, Global}
+use Rattle.std.proofs.Common.{◌∙◌, sym, ap, length, ℕ, Ok, Vec, Global}
 use Rattle.j_reshaping.proofs.Counting.{counted_made, counted_refused}
 use Rattle.j_reshaping.proofs.transposing.with_counted.Goals as goal
 
