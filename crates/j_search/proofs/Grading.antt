@@ -97,7 +97,7 @@ pub all_runs : {X : Type 0} (f : X → Atom) (a : Array) (xs : List X) (size cou
 all_runs f a xs size count atoms many ec is =
     runs_many (tally a.shape) (item_size a.shape) size (length xs) count (sym (length-map xs f) ∙ ap length atoms ∙ many ∙ items_many a.shape) ec is
 
-not_false : (b : Bool) → not b ≡ false → b ≡ true
+pub not_false : (b : Bool) → not b ≡ false → b ≡ true
 not_false true h = refl
 not_false false h = cc
 
@@ -107,7 +107,7 @@ no_atoms y kind h =
     let none : not (nat_eq (length y.atoms) 0) ≡ false = ap (λ k. is_boxed k && not (nat_eq (length y.atoms) 0)) kind ∙ h in
     nil_from_length y.atoms (eqb-true (length y.atoms) 0 (not_false (nat_eq (length y.atoms) 0) none))
 
-length-ordered : (d : Direction) (y : Array) → length (ordered d y) ≡ tally y.shape
+pub length-ordered : (d : Direction) (y : Array) → length (ordered d y) ≡ tally y.shape
 length-ordered d y = length-map-range_with_len (λ r. first_of (λ j. nat_eq (count_by (λ i. comes_before d y i j) (places (tally y.shape))) r) (tally y.shape)) 0 (tally y.shape)
 
 pub graded_many : (d : Direction) (y : Array) (numbers : List ℤ) (ks : List ℕ) → numbers ≡ map pos ks → ks ≡ ordered d y → length (map number numbers) ≡ tally y.shape

@@ -12,3 +12,4 @@ pub mod Searching
 pub mod Tables
 pub mod Packing
 pub mod Merging
+pub mod Listed

@@ -1,6 +1,7 @@
 -- Words that have a number in front of its place are ordered as the numbers are, and equal ones as their places.
-use Rattle.std.proofs.Common.{◌≡◌, ◌<◌, ◌+◌, ◌*◌, ℕ, ℤ, pos, ◌+ℤ◌, ◌<ℤ◌, List, [], ◌∷◌, ◌++◌, length, map, get_or, arith, refl, sym, ap, ◌∙◌, subst}
+use Rattle.std.proofs.Common.{◌≡◌, ◌<◌, ◌+◌, ◌*◌, ℕ, ℤ, pos, ◌+ℤ◌, ◌<ℤ◌, List, [], ◌∷◌, ◌++◌, length, map, get_or, arith, refl, sym, ap, ◌∙◌, subst, FitsSigned}
 use Rattle.std.specs.List.{All}
+use Rattle.std.specs.Int.{w64}
 use Rattle.std.specs.List.Sorted.{IsPermutation, IsSorted}
 use Rattle.std.specs.declared.cmp.Ordering.{Ordering}
 use Rattle.std.specs.declared.cmp.Ordering.TheVariants.{Less, Equal, Greater}
@@ -93,12 +94,13 @@ packed_more words new far k low h e =
     ∙ ap (λ m. places k ++ m ∷ []) (mod-mul-add far 4194304 k low)
     ∙ ap (λ xs. xs ++ k ∷ []) (sym (map-id (places k))) ∙ sym (map-range_with_len_more (λ x. x) 0 k k (omega arith)) ∙ map-id (places (k + 1))
 
-pub packed_here : {X : Type 0} (number : X → ℤ) (d : Direction) (range : Range) (xs : List X) (x : X) (far k : ℕ) → k < 4194304 → k < length xs → x ≡ get_or xs k x → IsDistance d range (number x) far →
+pub packed_here : {X : Type 0} (number : X → ℤ) (d : Direction) (range : Range) (xs : List X) (x : X) (far k : ℕ) → k < 4194304 → k < length xs → x ≡ get_or xs k x → IsDistance d range (number x) far → FitsSigned w64 (number x) →
     IsPacked number d range xs (far * 4194304 + k)
-packed_here number d range xs x far k low within is distance =
+packed_here number d range xs x far k low within is distance fits =
     let at : place_in (far * 4194304 + k) ≡ k = mod-mul-add far 4194304 k low in
     record {
       element = x;
       here = ap (run 1 xs) at ∙ one_run xs k x within ∙ ap (λ y. y ∷ []) (sym is);
       distance = subst (IsDistance d range (number x)) (sym (div-mul-add far 4194304 k low)) distance;
+      fits = fits;
     }

@@ -1,6 +1,6 @@
 -- What the crate's own functions of order say.
-use Rattle.std.specs.Prelude.{◌≡◌, ◌<◌, ℕ, List, map}
-use Rattle.std.specs.List.{All}
+use Rattle.std.specs.Prelude.{◌≡◌, ◌<◌, ◌*◌, ℕ, ℤ, List, length, map}
+use Rattle.std.specs.List.{All, flat_map}
 use Rattle.std.specs.List.Sorted.{IsPermutation, IsSortedBy}
 use Rattle.std.specs.Borrow.{Bor}
 use Rattle.std.specs.declared.cmp.Ordering.{Ordering}
@@ -10,7 +10,10 @@ use Rattle.std.specs.Cmp.Lexicographic.{slice_cmp}
 use Rattle.j_search.specs.declared.order.Direction.{Direction}
 use Rattle.j_search.specs.declared.order.Direction.TheVariants.{Up, Down}
 use Rattle.j_search.specs.Sought.{run}
-use Rattle.j_search.specs.Order.{ranked}
+use Rattle.j_definitions.specs.Array.{Array, number, tally}
+use Rattle.j_definitions.specs.Items.{item, item_size}
+use Rattle.j_definitions.specs.declared.Kind.TheVariants.{Number}
+use Rattle.j_search.specs.Order.{ranked, ordered}
 use Rattle.j_search.specs.Matching.{places}
 
 -- the order of two runs, and of equal ones that of their places
@@ -45,3 +48,9 @@ pub record IsInOrder {X : Type 0} (C : X → X → Ordering) (d : Direction) (si
 
 abbrev pub IsAscending : {X : Type 0} → (X → X → Ordering) → ℕ → ℕ → List X → List ℕ → Type 0
 IsAscending C size n xs ks = IsInOrder C Up size n xs ks
+
+-- the numbers that are the atoms of x's items in the order of y's
+pub record IsSortedOf (d : Direction) (x y : Array) (zs : List ℤ) : Type 0 where
+  pub kind : Number ≡ x.kind
+  pub atoms : map number zs ≡ flat_map (item x) (ordered d y)
+  pub as_many : length zs ≡ tally x.shape * item_size x.shape

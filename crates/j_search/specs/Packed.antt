@@ -1,5 +1,6 @@
 -- Numbers and their places in one word each.
-use Rattle.std.specs.Prelude.{◌≡◌, ◌<◌, ◌≤◌, ◌-◌, ◌/◌, ◌%◌, ℕ, ℤ, pos, ◌+ℤ◌, Bool, true, false, ◌&&◌, nat_eq, nat_lt, cond, List, [], ◌∷◌, length}
+use Rattle.std.specs.Prelude.{◌≡◌, ◌<◌, ◌≤◌, ◌-◌, ◌/◌, ◌%◌, ℕ, ℤ, pos, ◌+ℤ◌, Bool, true, false, ◌&&◌, nat_eq, nat_lt, cond, List, [], ◌∷◌, length, FitsSigned}
+use Rattle.std.specs.Int.{w64}
 use Rattle.std.specs.Ordering.{nat_cmp}
 use lib.ListN.{get_or}
 use Rattle.j_search.specs.declared.numbered.Range.{Range}
@@ -27,6 +28,7 @@ pub record IsPacked {X : Type 0} (number : X → ℤ) (d : Direction) (r : Range
   pub element : X
   pub here : run 1 xs (place_in word) ≡ element ∷ []
   pub distance : IsDistance d r (number element) (distance_in word)
+  pub fits : FitsSigned w64 (number element)
 
 -- whether word s comes before those of a distance
 abbrev pub word_before : Side → List ℕ → ℕ → ℕ → Bool

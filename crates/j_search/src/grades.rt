@@ -6,8 +6,10 @@ ghost use Rattle.j_noun.specs.Refused.{OrWanting};
 ghost use Rattle.j_search.specs.declared.order.Direction.TheVariants.{Up as UpWay, Down as DownWay};
 ghost use Rattle.j_search.specs.Order.{has_boxes, ordered, grade, sort};
 
+use crate::frames::item_axes;
 use crate::order::{Direction, graded};
-use crate::picking::{items_at, size_of_items};
+use crate::picking::{items_at, shape_behind, size_of_items};
+use crate::sorting::sorted_list;
 use j_noun::{Atoms, Fault, NoMemory, Noun, Pool, Refusal, View};
 use j_rank::{empty_list, shape_of};
 
@@ -100,6 +102,12 @@ fn sort(pool: &mut Pool, direction: Direction, x: &Noun, y: &Noun) -> Result<Nou
     }
     if x_count == 0 {
         return Ok(empty_list(pool)?);
+    }
+    if x_count == y_count {
+        if let Some(numbers) = sorted_list(pool, direction, x, y)? {
+            let shape = shape_behind(x_count, item_axes(x));
+            return Noun::make(pool, shape, Atoms::Wholes(numbers));
+        }
     }
     let places = order_of(pool, direction, y)?;
     items_at(pool, x, &places)

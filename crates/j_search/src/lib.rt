@@ -16,6 +16,7 @@ mod packed;
 mod picking;
 mod rows;
 mod seeking;
+mod sorting;
 mod sought;
 mod tabled;
 mod ways;

@@ -61,8 +61,8 @@ pub fn size_of_items(y: &Noun) -> usize
     atom_count(y.view()) / count
 }
 
-// A shape with an axis in front.
-fn shape_behind(count: usize, axes: &[usize]) -> Shape
+/// A shape with an axis in front.
+pub fn shape_behind(count: usize, axes: &[usize]) -> Shape
     requires { length axes.now ≤ 31 }
     ensures { result ≡ count ∷ axes.now }
 {
