@@ -4,10 +4,10 @@ use Prim.Native.Nat.{suc}
 use Rattle.std.specs.List.{All, range_with_len}
 use Rattle.std.proofs.lemmas.List.{drop_more, map_more}
 use Rattle.std.proofs.lemmas.List.Elements.{All-head, All-tail}
-use Rattle.std.proofs.lemmas.List.FromFn.{length-map-range_with_len, get_or-map-range_with_len}
-use Rattle.j_definitions.specs.Array.{Array, Atom, number, tally, IsNoun}
+use Rattle.std.proofs.lemmas.List.FromFn.{length-range_with_len, length-map-range_with_len, get_or-map-range_with_len}
+use Rattle.j_definitions.specs.Array.{Array, Atom, number, product, tally, IsNoun}
 use Rattle.j_definitions.specs.Limits.{limited}
-use Rattle.j_definitions.proofs.Limits.{limited-Ok}
+use Rattle.j_definitions.proofs.Limits.{limited-Ok, noun_few}
 use Rattle.j_definitions.proofs.Laws.{unit_weights, no_level}
 use Rattle.j_definitions.specs.declared.Kind.{Kind}
 use Rattle.j_definitions.specs.declared.Kind.TheVariants.{Number}
@@ -60,6 +60,21 @@ found_within m ks noun many few =
       light = omega (arith, unit_weights numbered (λ k. refl) ks);
       shallow = omega (arith, no_level numbered (λ k. refl) ks);
     })
+
+-- the places of a noun are within the limits
+pub places_fit : (y : Array) → IsNoun y → limited (all_places y.shape) ≡ Ok (all_places y.shape)
+places_fit y noun =
+    let ks : List ℕ = range_with_len 0 (product y.shape) in
+    let many : length ks ≤ 4194304 = omega (arith, length-range_with_len 0 (product y.shape), noun.as_many, noun_few y noun) in
+    limited-Ok (all_places y.shape) (record {
+      rank = noun.within.rank;
+      axes = noun.within.axes;
+      light = omega (arith, unit_weights numbered (λ k. refl) ks);
+      shallow = omega (arith, no_level numbered (λ k. refl) ks);
+    })
+
+pub never_refused : (a b : Array) (e : Fault) → a ≡ b → limited b ≡ Ok b → limited a ≡ Err e → ⊥
+never_refused a b e same fits refused = let h : (let r : Result Array Fault = Ok b in r) ≡ Err e = sym fits ∙ ap limited (sym same) ∙ refused in cc
 
 abbrev read : Array → Result (List ℕ) Fault
 read p = and_then (whole_numbers p.atoms) (λ zs. Ok (magnitudes zs))

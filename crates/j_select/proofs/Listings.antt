@@ -1,8 +1,8 @@
 -- Lists of all choices.
-use Rattle.std.proofs.Common.{◌≡◌, ◌<◌, ◌≤◌, ◌+◌, ◌*◌, ℕ, List, [], ◌∷◌, ◌++◌, length, map, take, drop, get_or, arith, refl, sym, ap, ◌∙◌, append_assoc, append-nil, Result, Err}
+use Rattle.std.proofs.Common.{◌≡◌, ◌<◌, ◌≤◌, ◌+◌, ◌*◌, ℕ, List, [], ◌∷◌, ◌++◌, length, map, take, drop, get_or, arith, refl, sym, ap, ◌∙◌, subst, append_assoc, append-nil, Result, Err}
 use Rattle.std.specs.List.{All, flat_map}
-use Rattle.std.proofs.lemmas.List.{take_more, take_all, drop_more, length-map, nil_from_length}
-use Rattle.std.proofs.lemmas.List.Elements.{All-head, All-tail}
+use Rattle.std.proofs.lemmas.List.{take_more, map_more, take_all, drop_more, length-map, nil_from_length}
+use Rattle.std.proofs.lemmas.List.Elements.{All-nil, All-cons, All-append, All-head, All-tail}
 use Rattle.std.proofs.lemmas.List.Concat.{flat_map-append}
 use Rattle.j_definitions.specs.Array.{Array, Atom, boxed, product, IsNoun}
 use Rattle.j_definitions.specs.Limits.{limited}
@@ -116,6 +116,18 @@ sizes_are (a ∷ contents) nouns =
     let first = All-head IsNoun a contents nouns in
     ap (λ n. n ∷ map (λ (b : Array). length b.atoms) contents) first.as_many ∙ ap (λ r. product a.shape ∷ r) (sizes_are contents (All-tail IsNoun a contents nouns))
 
--- without choices the shapes joined have no places
-pub bare_size : (contents : List Array) → All IsNoun contents → length (choices (map (λ (a : Array). a.atoms) contents)) ≡ product (flat_map (λ (a : Array). a.shape) contents)
-bare_size contents nouns = choices_size contents ∙ ap product (sizes_are contents nouns) ∙ sym (joined_size contents)
+-- the shapes joined have a place for each choice
+pub frame_size : (contents : List Array) → All IsNoun contents → length (choices (map (λ (a : Array). a.atoms) contents)) ≡ product (flat_map (λ (a : Array). a.shape) contents)
+frame_size contents nouns = choices_size contents ∙ ap product (sizes_are contents nouns) ∙ sym (joined_size contents)
+
+-- one more noun
+pub nouns_more : (contents : List Array) (i : ℕ) (a : Array) → i < length contents → a ≡ get_or contents i a → IsNoun a → All IsNoun (take i contents) → All IsNoun (take (i + 1) contents)
+nouns_more contents i a h is noun before =
+    let more : take (i + 1) contents ≡ take i contents ++ a ∷ [] = take_more contents i a h ∙ ap (λ b. take i contents ++ b ∷ []) (sym is) in
+    subst (All IsNoun) (sym more) (All-append IsNoun (take i contents) (a ∷ []) before (All-cons IsNoun a [] noun (All-nil IsNoun)))
+
+pub sizes_more : (contents : List Array) (i : ℕ) (a : Array) (n : ℕ) (old new : List ℕ) → i < length contents → a ≡ get_or contents i a → n ≡ length a.atoms → old ≡ map (λ (b : Array). length b.atoms) (take i contents) → new ≡ old ++ n ∷ [] →
+    new ≡ map (λ (b : Array). length b.atoms) (take (i + 1) contents)
+sizes_more contents i a n old new h is many before more =
+    more ∙ ap (λ r. r ++ n ∷ []) before ∙ ap (λ m. map (λ (b : Array). length b.atoms) (take i contents) ++ m ∷ []) (many ∙ ap (λ (b : Array). length b.atoms) is)
+    ∙ sym (map_more (λ (b : Array). length b.atoms) contents i a h)

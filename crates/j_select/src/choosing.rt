@@ -188,14 +188,15 @@ fn lists_of_kind(
 
 // How many choices there are, within the limit.
 fn count_choices(pool: &mut Pool, contents: &[Noun]) -> Result<Option<usize>, NoMemory>
-    ensures { IfOk result (λ o. MatchOption o (4194304 < length (choices (map (λ (a : Array). a.atoms) contents.now))) (λ n. (n ≡ length (choices (map (λ (a : Array). a.atoms) contents.now))) × (n ≤ 4194304))) }
+    ensures frame { IfOk result (λ _. product (flat_map (λ (a : Array). a.shape) contents.now) ≡ length (choices (map (λ (a : Array). a.atoms) contents.now))) }
+    ensures count { IfOk result (λ o. MatchOption o (4194304 < length (choices (map (λ (a : Array). a.atoms) contents.now))) (λ n. (n ≡ length (choices (map (λ (a : Array). a.atoms) contents.now))) × (n ≤ 4194304))) }
 {
     let mut sizes = pool.fresh(contents.len())?;
     for content in contents {
-        let Some(size) = size_within(content.axes()) else {
-            return Err(NoMemory);
-        };
         let _ = content.view();
+        let Some(size) = size_within(content.axes()) else {
+            unreachable!();
+        };
         let Ok(()) = sizes.push(size) else {
             return Err(NoMemory);
         };
@@ -244,27 +245,23 @@ fn boxes_of_choices(
 ) -> Result<Noun, Refusal>
     requires kinds { All (Joins kind) contents.now }
     requires frame { frame ≡ flat_map (λ (a : Array). a.shape) contents.now }
+    requires many { product frame ≡ length (choices (map (λ (a : Array). a.atoms) contents.now)) }
     ensures { OrWanting (limited (boxes_of_choices contents.now (choices (map (λ (a : Array). a.atoms) contents.now)) kind)) result }
 {
     let chosen = lists_of_kind(pool, kind, contents, count)?;
-    if size_within(frame.axes()) == Some(chosen.len()) {
-        return Noun::make(pool, frame, Atoms::Boxes(chosen));
-    }
-    Err(Refusal::NoMemory)
+    Noun::make(pool, frame, Atoms::Boxes(chosen))
 }
 
 // The boxes of no choices.
 fn no_choices(pool: &mut Pool, kind: Kind, contents: &[Noun]) -> Result<Noun, Refusal>
-    requires { length (choices (map (λ (a : Array). a.atoms) contents.now)) ≡ 0 }
+    requires frame { product (flat_map (λ (a : Array). a.shape) contents.now) ≡ 0 }
+    requires none { length (choices (map (λ (a : Array). a.atoms) contents.now)) ≡ 0 }
     ensures { OrWanting (catalogue_of kind contents.now) result }
 {
     let Ok(frame) = frame_of(contents) else {
         return Err(Refusal::Fault(Fault::Limit));
     };
-    if size_within(frame.axes()) == Some(0) {
-        return no_boxes(pool, frame);
-    }
-    Err(Refusal::NoMemory)
+    no_boxes(pool, frame)
 }
 
 // What more choices than there can be are.
@@ -285,6 +282,7 @@ fn some_choices(
     contents: &[Noun],
     count: usize,
 ) -> Result<Noun, Refusal>
+    requires frame { product (flat_map (λ (a : Array). a.shape) contents.now) ≡ count }
     requires some { 0 < count }
     requires count { count ≡ length (choices (map (λ (a : Array). a.atoms) contents.now)) }
     ensures { OrWanting (catalogue_of kind contents.now) result }

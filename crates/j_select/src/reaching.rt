@@ -19,8 +19,9 @@ use j_rank::{
 pub fn all_places(pool: &mut Pool, y: &Noun) -> Result<Noun, NoMemory>
     ensures { IfOk result (λ a. a ≡ all_places y.now.shape) }
 {
+    let _ = y.view();
     let Some(count) = size_within(y.axes()) else {
-        return Err(NoMemory);
+        unreachable!();
     };
     let mut places = pool.ints(count)?;
     for k in 0..count {
@@ -31,7 +32,8 @@ pub fn all_places(pool: &mut Pool, y: &Noun) -> Result<Noun, NoMemory>
     }
     match Noun::make(pool, y.shape(), Atoms::Wholes(places)) {
         Ok(all) => Ok(all),
-        Err(_) => Err(NoMemory),
+        Err(Refusal::NoMemory) => Err(NoMemory),
+        Err(Refusal::Fault(_)) => unreachable!(),
     }
 }
 

@@ -8,8 +8,8 @@ use Rattle.j_indices.proofs.Answering.{answers}
 use Rattle.j_indices.proofs.Chosen.{map_map}
 use Rattle.j_select.proofs.choosing.boxes_of_choices.Goals as goal
 
-pub returns-then-eq : goal.returns-then-eq
-returns-then-eq c =
+pub returns : goal.returns
+returns c =
     let chosen = choices (map (λ (a : Array). a.atoms) c.args.contents.now) in
     answers c.args.frame (Boxes c.in_ok-chosen.chosen) (boxes_of_choices c.args.contents.now chosen c.args.kind) c.make.result c.requires.frame
     (record { kind = refl; atoms = ap (map boxed) c.in_ok-chosen.ensures ∙ map_map boxed (listed c.args.kind) chosen; bits = tt }) c.make.ensures.limited
