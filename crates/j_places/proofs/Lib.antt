@@ -6,3 +6,4 @@ pub mod KeptLaws
 pub mod KeptSteps
 pub mod KeepLaws
 pub mod ReverseLaws
+pub mod TakingLaws
