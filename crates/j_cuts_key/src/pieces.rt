@@ -16,11 +16,11 @@ use crate::line_places::{columns, line, line_count, rows};
 use crate::lines::{Lines, Links};
 use crate::linking::{class_places, links};
 use crate::spans::cut_span;
+use j_indices::cells_at;
 use j_noun::{Fault, NoMemory, Noun, Pool, Refusal};
 use j_rank::shape_of;
 use j_scans::{Span, items_in};
 use j_search::{CutForm, first_places, own_places};
-use j_indices::cells_at;
 use std::marker::Model;
 
 /// The pieces of a noun, which are made one at a time.
