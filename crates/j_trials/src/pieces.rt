@@ -45,6 +45,7 @@ fn refused_pieces(rt: HostRuntime) -> Result<(), Fail> {
         ("", "0 <./\\ 1 2", "domain"),
         ("", "5\\ 1 2", "nonce"),
         ("", "5/. 'ab'", "nonce"),
+        ("", "+;.4", "domain"),
         ("", "'ab' #/. 1 2 3", "length"),
         // the first key has two characters
         ("", "'aba' +//. 'abc'", "domain"),
