@@ -1,5 +1,4 @@
-pub mod Locales
-pub mod Names
 pub mod Coded
+pub mod Names
 pub mod Kept
 pub mod Rows

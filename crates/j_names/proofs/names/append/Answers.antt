@@ -1,0 +1,12 @@
+use Rattle.std.proofs.Common.{◌∙◌, ap}
+use Rattle.j_names.specs.Kept.{kept}
+use Rattle.j_names.proofs.Search.{kept_push}
+use Rattle.j_names.proofs.names.append.Goals.{in-Ok, in-Err}
+use Rattle.j_names.proofs.names.append.Goals as goal
+
+pub returns-clause-ok : goal.returns-clause-ok
+returns-clause-ok c =
+    elim c.match-push.branch [
+      | in-Ok w ↦ rw w.result-is (λ none. ap kept w.in-Ok.ensures.items ∙ kept_push c.args.rows.now.items c.args.row none)
+      | in-Err w ↦ rw w.result-is tt
+    ]
