@@ -1,10 +1,10 @@
 -- What a run of lines shows.
 use Rattle.std.specs.Prelude.{ℕ, List, [], ◌∷◌, ◌++◌, Result, Ok, Err}
 use Rattle.std.specs.Str.Lines.{lines}
-use Rattle.std.specs.FinMap as map
 use Rattle.j_definitions.specs.declared.Fault.{Fault}
 use Rattle.j_verbs.specs.State.{State, Outcome, Gave, Erred, Spent}
 use Rattle.j_explicit.specs.Reading.{reading}
+use Rattle.j_names.specs.Names.{begun}
 use Rattle.j_eval.specs.Meaning.{top}
 use Rattle.j_entity.specs.Tree.{EntityTree, WordTree}
 use Rattle.j_cli.specs.Report.{report}
@@ -65,7 +65,7 @@ pieces run [] = []
 pieces run (line ∷ rest) = (next run line).piece ++ pieces (next run line).run rest
 
 abbrev pub start : RunState
-start = record { state = record { steps = 0; budget = budget; shown = []; names = map.empty }; end = going }
+start = record { state = record { steps = 0; budget = budget; shown = []; names = begun }; end = going }
 
 -- The lines of a text: a line ends before a line feed, and a carriage return directly before that isn't part of it; what stands after the last line feed is a line if it has a byte.
 abbrev pub lines_of : List ℕ → List (List ℕ)

@@ -7,7 +7,7 @@ use Rattle.j_noun.specs.declared.refusal.Refusal.TheVariants as refusal
 use Rattle.j_noun.specs.Refused.{OrWanting}
 use Rattle.j_verbs.specs.Answered.{Gives}
 use Rattle.j_verbs.specs.State.{State, Outcome, Gave, Run, Unit0, then_do, or_fault}
-use Rattle.j_names.specs.Names.{NameMap, IsRefused}
+use Rattle.j_names.specs.Names.{Scopes, IsRefused}
 use Rattle.j_eval.specs.Halting.{halt_of, halted}
 use Rattle.j_eval.specs.Names.{with_names}
 use Rattle.j_eval.specs.declared.outcome.Halt.{Halt}
@@ -40,9 +40,9 @@ then_err halt.Spent m o go h = ap (λ o. then_do o go) h
 then_err halt.NoMemory m o go h = tt
 
 -- a name that is given what it holds, and one that isn't
-pub set_ok : (q : Result NameMap Fault) (names : NameMap) (s : State) → q ≡ Ok names → then_do (or_fault q s) with_names ≡ Gave (tt {0}) (record s { names = names })
-set_ok q names s h = ap (λ (q : Result NameMap Fault). then_do (or_fault q s) with_names) h
+pub set_ok : (q : Result Scopes Fault) (names : Scopes) (s : State) → q ≡ Ok names → then_do (or_fault q s) with_names ≡ Gave (tt {0}) (record s { names = names })
+set_ok q names s h = ap (λ (q : Result Scopes Fault). then_do (or_fault q s) with_names) h
 
-pub set_err : (q : Result NameMap Fault) (r : Refusal) (m : Running) → IsRefused q r → Meets {A = Unit0} (Err (halt_of r)) m (then_do (or_fault q m.state) with_names)
+pub set_err : (q : Result Scopes Fault) (r : Refusal) (m : Running) → IsRefused q r → Meets {A = Unit0} (Err (halt_of r)) m (then_do (or_fault q m.state) with_names)
 set_err (Err f) r m h = subst (λ (r : Refusal). Meets {A = Unit0} (Err (halt_of r)) m (then_do (or_fault (Err f) m.state) with_names)) (sym h) refl
 set_err (Ok names) r m h = subst (λ (r : Refusal). Meets {A = Unit0} (Err (halt_of r)) m (then_do (or_fault (Ok names) m.state) with_names)) (sym h) tt

@@ -4,19 +4,19 @@ use Rattle.j_definitions.specs.declared.Fault.{Fault}
 use Rattle.j_definitions.specs.declared.Fault.TheVariants.{Value}
 use Rattle.j_entity.specs.Tree.{EntityTree, VerbTree, a_noun, a_verb, an_adverb, a_conjunction}
 use Rattle.j_leaves.specs.Names.{NameParts}
-use Rattle.j_names.specs.Names.{NameMap, look, assign}
+use Rattle.j_names.specs.Names.{Scopes, look, assign}
 use Rattle.j_verbs.specs.State.{Run, Gave, then_do, ◌>>=◌, or_fault, Unit0}
 
 -- what a name holds, if anything
 abbrev pub found : NameParts → Run (Option EntityTree)
 found n s = or_fault (look s.names n) s
 
-abbrev pub with_names : NameMap → Run Unit0
+abbrev pub with_names : Scopes → Run Unit0
 with_names names s = Gave tt (record s { names = names })
 
--- A name is given what it holds, by `=.` or by `=:`. There are no locals yet, so both do the same.
+-- A name is given what it holds, by `=.` or by `=:`.
 abbrev pub set_name : Bool → NameParts → EntityTree → Run Unit0
-set_name local n e s = then_do (or_fault (assign s.names n e) s) with_names
+set_name local n e s = then_do (or_fault (assign local s.names n e) s) with_names
 
 abbrev pub verb_held : Option EntityTree → Result VerbTree Fault
 verb_held None = Err Value

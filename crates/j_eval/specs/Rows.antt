@@ -1,14 +1,14 @@
 -- Names for the sentences worked out by hand.
-use Rattle.std.specs.Prelude.{ℕ, ℤ, List, [], ◌∷◌, length, map as mapped, Some, None}
-use Rattle.std.specs.FinMap as map
+use Rattle.std.specs.Prelude.{ℕ, ℤ, List, [], ◌∷◌, length, map as mapped, codes, Some, None}
 use Rattle.j_definitions.specs.Array.{Array, number, byte, atom_array}
 use Rattle.j_definitions.specs.declared.Kind.TheVariants.{Number, Character}
 use Rattle.j_leaves.specs.declared.primitive.Primitive.{Primitive}
 use Rattle.j_leaves.specs.declared.primitive.Primitive.TheVariants as p
 use Rattle.j_leaves.specs.declared.modifier.Modifier.{Modifier}
 use Rattle.j_leaves.specs.declared.modifier.Modifier.TheVariants as m
-use Rattle.j_names.specs.Names.{NameMap}
-use Rattle.j_names.specs.Rows.{f, with}
+use Rattle.j_names.specs.Names.{Scopes, begun, put}
+use Rattle.j_names.specs.Rows.{f}
+use Rattle.j_names.specs.declared.target.Target.TheVariants as target
 use Rattle.j_entity.specs.Tree.{EntityTree, VerbTree, WordTree, primitive, derived, derived2, modifier, a_noun, a_verb, an_adverb, a_conjunction, entity}
 use Rattle.j_entity.specs.Tree as operand
 use Rattle.j_verbs.specs.State.{State, Outcome, Gave}
@@ -85,11 +85,11 @@ on_two x v y s = call (nested 9) v (Some x) y s
 
 -- so many steps counted of a hundred, and bytes shown
 abbrev pub after : ℕ → List ℕ → State
-after steps shown = record { steps = steps; budget = 100; shown = shown; names = map.empty }
+after steps shown = record { steps = steps; budget = 100; shown = shown; names = begun }
 
--- so many steps counted of a budget, without names
+-- so many steps counted of a budget, with the names of a run that begins
 abbrev pub within : ℕ → ℕ → State
-within budget steps = record { steps = steps; budget = budget; shown = []; names = map.empty }
+within budget steps = record { steps = steps; budget = budget; shown = []; names = begun }
 
 -- a top sentence, before which no step was counted
 abbrev pub top_of : List WordTree → Outcome EntityTree
@@ -99,10 +99,14 @@ top_of words = top words (after 0 [])
 abbrev pub gave : EntityTree → ℕ → List ℕ → Outcome EntityTree
 gave e steps shown = Gave e (after steps shown)
 
--- the one name f holds this
-abbrev pub f_is : EntityTree → NameMap
-f_is e = with f e map.empty
+-- beside the names of a run that begins f holds this
+abbrev pub f_is : EntityTree → Scopes
+f_is e = put begun target.Current f.base e
+
+-- and so does f in the locale p
+abbrev pub f_of_p_is : EntityTree → Scopes
+f_of_p_is e = put begun (target.Locale (codes "p")) f.base e
 
 -- so many steps counted of a hundred, bytes shown, and names
-abbrev pub knowing : NameMap → ℕ → List ℕ → State
+abbrev pub knowing : Scopes → ℕ → List ℕ → State
 knowing names steps shown = record { steps = steps; budget = 100; shown = shown; names = names }

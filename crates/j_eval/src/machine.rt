@@ -1,10 +1,10 @@
 // The machine that evaluates sentences.
 ghost use Rattle.std.specs.Prelude.{◌≡◌, ◌≢◌, ◌≤◌, [], length, map as mapped, Some, None, IfOk, option_map};
-ghost use Rattle.std.specs.FinMap as map;
 ghost use Rattle.std.specs.Option.{option_copied};
 ghost use Rattle.j_definitions.specs.Array.{Array};
 ghost use Rattle.j_entity.specs.Tree.{EntityTree};
 ghost use Rattle.j_entity.specs.View.{entity_of, word_of};
+ghost use Rattle.j_names.specs.Names.{begun};
 ghost use Rattle.j_eval.specs.Names.{found, set_name, verb_named};
 ghost use Rattle.j_eval.specs.Applying.{call, nested};
 ghost use Rattle.j_verbs.specs.State.{Outcome as OutcomeOf, one_step};
@@ -64,7 +64,7 @@ impl Model for Machine {
 impl Machine {
     /// A machine that has counted no step and may count `budget` of them.
     pub fn new(alloc: Global, budget: u64) -> Result<Machine, NoMemory>
-        ensures { IfOk result (λ m. m ≡ record { state = record { steps = 0; budget = budget; shown = []; names = map.empty }; readiness = ready; asked = 0 }) }
+        ensures { IfOk result (λ m. m ≡ record { state = record { steps = 0; budget = budget; shown = []; names = begun }; readiness = ready; asked = 0 }) }
     {
         let names = Names::new(alloc)?;
         Ok(Machine {
@@ -233,13 +233,17 @@ impl Machine {
         }
     }
 
-    // Gives a name what it holds, by `=.` or by `=:`, which do the same where there are no locals.
+    // Gives a name what it holds, by `=.` or by `=:`.
     #[tactic(auto, using(crate::proofs::Parts::set_err, crate::proofs::Parts::set_ok))]
-    pub(crate) fn set_name(&mut self, _local: bool, name: Name, e: Entity) -> Result<(), Halt>
-        ensures gives { Meets result self.new (set_name _local name (entity_of e) self.old.state) }
+    pub(crate) fn set_name(&mut self, local: bool, name: Name, e: Entity) -> Result<(), Halt>
+        ensures gives { Meets result self.new (set_name local name (entity_of e) self.old.state) }
         ensures onward { Onward self.old self.new }
     {
-        Ok(self.names.set(name, e)?)
+        if local {
+            Ok(self.names.set_local(name, e)?)
+        } else {
+            Ok(self.names.set_global(name, e)?)
+        }
     }
 
     // Counts a step.

@@ -4,8 +4,8 @@ ghost use Rattle.j_definitions.specs.declared.Fault.TheVariants as fault;
 ghost use Rattle.j_leaves.specs.declared.primitive.Primitive.TheVariants as p;
 ghost use Rattle.j_leaves.specs.declared.modifier.Modifier.TheVariants as m;
 ghost use Rattle.j_noun.specs.declared.ranks.RankPart.TheVariants.{Infinite};
-ghost use Rattle.j_names.specs.Names.{NameMap, look};
-ghost use Rattle.j_names.specs.Rows.{f, f_in_g};
+ghost use Rattle.j_names.specs.Names.{Scopes, look};
+ghost use Rattle.j_names.specs.Rows.{f, f_in_p};
 ghost use Rattle.j_entity.specs.Ranks.{endless, of, same};
 ghost use Rattle.j_entity.specs.Tree.{primitive, named, hook, derived, derived2, a_noun, a_verb, name, ranks_word, open_mark, close_mark, local_copula, global_copula};
 ghost use Rattle.j_entity.specs.Tree as operand;
@@ -17,7 +17,7 @@ ghost use Rattle.j_eval.specs.Applying.{call, nested};
 ghost use Rattle.j_eval.specs.Table.{row_at};
 ghost use Rattle.j_eval.specs.Meaning.{top};
 ghost use Rattle.j_eval.specs.Laws.{BoundIsEnough};
-ghost use Rattle.j_eval.specs.Rows.{atom, character, list, noun, verb, plus, minus, times, at, joining, swapped, amending, shaped, inserted, dotted, under, on_parts, cut_by, on_one, on_two, within, after, knowing, f_is, top_of, gave};
+ghost use Rattle.j_eval.specs.Rows.{atom, character, list, noun, verb, plus, minus, times, at, joining, swapped, amending, shaped, inserted, dotted, under, on_parts, cut_by, on_one, on_two, within, after, knowing, f_is, f_of_p_is, top_of, gave};
 
 /// Laws: which row four entries match, worked out by hand.
 pub fn table_rows()
@@ -172,18 +172,17 @@ pub fn name_rows()
         ≡ Gave (a_noun (atom (pos 8))) (knowing (f_is (a_noun (atom (pos 5)))) 3 (codes "8" ++ 10 ∷ [])) }
     ensures in_parentheses { top_of (open_mark ∷ name f ∷ global_copula ∷ noun (atom (pos 5)) ∷ close_mark ∷ [])
         ≡ Gave (a_noun (atom (pos 5))) (knowing (f_is (a_noun (atom (pos 5)))) 3 (codes "5" ++ 10 ∷ [])) }
-    ensures locative_assigned { top_of (name f_in_g ∷ global_copula ∷ plus ∷ []) ≡ Erred fault.Nonce (after 2 []) }
-    ensures locative_moved { top_of (name f_in_g ∷ []) ≡ Erred fault.Nonce (after 1 []) }
-    ensures no_value { (names : NameMap) → look names f ≡ Ok None → top (name f ∷ []) (knowing names 0 []) ≡ Erred fault.Value (knowing names 1 []) }
-    ensures noun_by_value { (names : NameMap) → look names f ≡ Ok (Some (a_noun (atom (pos 5)))) → top (name f ∷ plus ∷ name f ∷ []) (knowing names 0 [])
+    ensures locative_assigned { top_of (name f_in_p ∷ global_copula ∷ plus ∷ []) ≡ Gave (a_verb (primitive p.Plus)) (knowing (f_of_p_is (a_verb (primitive p.Plus))) 2 []) }
+    ensures no_value { (names : Scopes) → look names f ≡ Ok None → top (name f ∷ []) (knowing names 0 []) ≡ Erred fault.Value (knowing names 1 []) }
+    ensures noun_by_value { (names : Scopes) → look names f ≡ Ok (Some (a_noun (atom (pos 5)))) → top (name f ∷ plus ∷ name f ∷ []) (knowing names 0 [])
         ≡ Gave (a_noun (atom (pos 10))) (knowing names 2 (codes "10" ++ 10 ∷ [])) }
-    ensures verb_stays { (names : NameMap) → look names f ≡ Ok (Some (a_verb (primitive p.Plus))) → top (name f ∷ []) (knowing names 0 [])
+    ensures verb_stays { (names : Scopes) → look names f ≡ Ok (Some (a_verb (primitive p.Plus))) → top (name f ∷ []) (knowing names 0 [])
         ≡ Gave (a_verb (named f (same (of 0)))) (knowing names 1 (codes "verb" ++ 10 ∷ [])) }
-    ensures each_cell { (names : NameMap) → look names f ≡ Ok (Some (a_verb (primitive p.Minus))) → call (nested 9) (named f (same (of 0))) None (list (pos 1 ∷ pos 2 ∷ [])) (knowing names 0 [])
+    ensures each_cell { (names : Scopes) → look names f ≡ Ok (Some (a_verb (primitive p.Minus))) → call (nested 9) (named f (same (of 0))) None (list (pos 1 ∷ pos 2 ∷ [])) (knowing names 0 [])
         ≡ Gave (list (negsuc 0 ∷ negsuc 1 ∷ [])) (knowing names 2 []) }
-    ensures no_verb { (names : NameMap) → look names f ≡ Ok (Some (a_noun (atom (pos 5)))) → call (nested 9) (named f endless) None (atom (pos 1)) (knowing names 0 []) ≡ Erred fault.Value (knowing names 1 []) }
-    ensures itself { (names : NameMap) → look names f ≡ Ok (Some (a_verb (named f endless))) → call (nested 3) (named f endless) None (atom (pos 1)) (knowing names 0 []) ≡ Erred fault.Stack (knowing names 3 []) }
-    ensures spent { (names : NameMap) → look names f ≡ Ok (Some (a_verb (primitive p.Minus))) → call (nested 9) (named f (same (of 0))) None (list (pos 1 ∷ pos 2 ∷ [])) (knowing names 99 []) ≡ Spent (knowing names 100 []) }
+    ensures no_verb { (names : Scopes) → look names f ≡ Ok (Some (a_noun (atom (pos 5)))) → call (nested 9) (named f endless) None (atom (pos 1)) (knowing names 0 []) ≡ Erred fault.Value (knowing names 1 []) }
+    ensures itself { (names : Scopes) → look names f ≡ Ok (Some (a_verb (named f endless))) → call (nested 3) (named f endless) None (atom (pos 1)) (knowing names 0 []) ≡ Erred fault.Stack (knowing names 3 []) }
+    ensures spent { (names : Scopes) → look names f ≡ Ok (Some (a_verb (primitive p.Minus))) → call (nested 9) (named f (same (of 0))) None (list (pos 1 ∷ pos 2 ∷ [])) (knowing names 99 []) ≡ Spent (knowing names 100 []) }
 {}
 
 /// Laws: each word is moved once and goes in a row once, so the bound of a sentence is never met.

@@ -1,6 +1,7 @@
 use crate::Names;
-use j_entity::{Entity, Parts, Primitive, Verb};
-use j_leaves::Name;
+use j_entity::Entity;
+use j_leaves::{Name, Text};
+use j_noun::{Noun, View};
 use std::alloc::Global;
 use std::test::Fail;
 
@@ -9,24 +10,42 @@ fn name(alloc: Global, spelling: &[u8]) -> Result<Name, Fail> {
     Ok(name.ok_or("no name")?)
 }
 
-fn give(alloc: Global, names: &mut Names, spelling: &[u8], p: Primitive) -> Result<(), Fail> {
-    let verb = Verb::derive(alloc, Parts::Primitive(p));
-    let verb = verb.ok().ok_or("no verb")?;
+fn give(alloc: Global, names: &mut Names, spelling: &[u8], n: i64) -> Result<(), Fail> {
     let name = name(alloc, spelling)?;
-    Ok(names.set(name, Entity::Verb(verb)).ok().ok_or("no room")?)
+    let given = names.set_local(name, Entity::Noun(Noun::number(n)));
+    Ok(given.ok().ok_or("refused")?)
+}
+
+// Whether a name holds this number.
+fn holds(alloc: Global, names: &Names, spelling: &[u8], n: i64) -> Result<bool, Fail> {
+    let name = name(alloc, spelling)?;
+    match names.get(&name).ok().ok_or("a fault")? {
+        Some(Entity::Noun(y)) => Ok(matches!(y.view(), View::Wholes([m]) if *m == n)),
+        _ => Ok(false),
+    }
 }
 
 #[test]
-fn keeps_names(rt: HostRuntime) -> Result<(), Fail> {
+fn keeps_locals(rt: HostRuntime) -> Result<(), Fail> {
     let alloc = rt.alloc();
     let mut names = Names::new(alloc).ok().ok_or("no memory")?;
-    give(alloc, &mut names, b"f", Primitive::Plus)?;
-    give(alloc, &mut names, b"g", Primitive::Minus)?;
-    give(alloc, &mut names, b"f", Primitive::Times)?;
-    let held = names.get(&name(alloc, b"f")?).ok().ok_or("no answer")?;
-    assert!(rt; held.is_some());
-    let other = names.get(&name(alloc, b"h")?).ok().ok_or("no answer")?;
-    assert!(rt; other.is_none());
-    assert!(rt; names.get(&name(alloc, b"f_z_")?).is_err());
+    give(alloc, &mut names, b"a", 1)?;
+    names.enter().ok().ok_or("no memory")?;
+    give(alloc, &mut names, b"a", 3)?;
+    assert!(rt; holds(alloc, &names, b"a", 3)?);
+    names.leave();
+    assert!(rt; holds(alloc, &names, b"a", 1)?);
+    Ok(())
+}
+
+#[test]
+fn keeps_locales(rt: HostRuntime) -> Result<(), Fail> {
+    let alloc = rt.alloc();
+    let mut names = Names::new(alloc).ok().ok_or("no memory")?;
+    give(alloc, &mut names, b"a_p_", 2)?;
+    assert!(rt; !holds(alloc, &names, b"a", 2)?);
+    let p = Vec::from_slice(alloc, b"p").ok().ok_or("no memory")?;
+    drop(names.switch_locale(Text::make(p)));
+    assert!(rt; holds(alloc, &names, b"a", 2)?);
     Ok(())
 }

@@ -1,14 +1,14 @@
 -- The state of a run, and what runs give.
 use Rattle.std.specs.Prelude.{ℕ, ◌+◌, nat_lt, List, Result, Ok, Err, if◌then◌else◌}
 use Rattle.j_definitions.specs.declared.Fault.{Fault}
-use Rattle.j_names.specs.Names.{NameMap}
+use Rattle.j_names.specs.Names.{Scopes}
 
 -- the steps counted, the most that there may be, the bytes shown since the present top line began, and the names
 pub record State : Type 0 where
   pub steps : ℕ
   pub budget : ℕ
   pub shown : List ℕ
-  pub names : NameMap
+  pub names : Scopes
 
 -- how a run ends, with the state that it leaves
 pub data Outcome (A : Type 0) : Type 0 where

@@ -1,7 +1,6 @@
 use Rattle.std.proofs.Common.{◌≡◌, [], ◌∷◌, pos, Option, Some, None, Ok, refl}
-use Rattle.std.specs.FinMap as map
 use Rattle.j_leaves.specs.declared.primitive.Primitive.TheVariants as p
-use Rattle.j_names.specs.Names.{NameMap, look}
+use Rattle.j_names.specs.Names.{Scopes, look, simple}
 use Rattle.j_names.specs.Rows.{f}
 use Rattle.j_entity.specs.Ranks.{endless}
 use Rattle.j_entity.specs.Tree.{EntityTree, primitive, named, a_noun, a_verb}
@@ -15,7 +14,7 @@ use Rattle.j_eval.specs.Meaning.{finished, reduced, monad_at, dyad_at, modified,
 use Rattle.j_eval.proofs.rows.name_rows.Goals as goal
 
 -- the finite map has what is looked up
-held : (names : NameMap) (o : Option EntityTree) → look names f ≡ Ok o → map.get names (102 ∷ []) ≡ o
+held : (names : Scopes) (o : Option EntityTree) → look names f ≡ Ok o → simple names (102 ∷ []) ≡ o
 held names o h = cc
 
 pub returns-clause-assigned : goal.returns-clause-assigned
@@ -61,7 +60,3 @@ returns-clause-spent c = λ names h. rw (held names (Some (a_verb (primitive p.M
 pub returns-clause-locative_assigned : goal.returns-clause-locative_assigned
 unfolding digits most_levels apply word by_ranks finished reduced monad_at dyad_at modified joined train bident assignment word_at entity_at noun_at verb_at operand_at adverb_at conjunction_at
 returns-clause-locative_assigned c = refl
-
-pub returns-clause-locative_moved : goal.returns-clause-locative_moved
-unfolding digits most_levels apply word by_ranks finished reduced monad_at dyad_at modified joined train bident assignment word_at entity_at noun_at verb_at operand_at adverb_at conjunction_at
-returns-clause-locative_moved c = refl
