@@ -5,6 +5,7 @@ pub mod Shorter
 pub mod Sentences
 pub mod Bound
 pub mod Parts
+pub mod Visits
 pub mod Cells
 pub mod Between
 pub mod Identities

@@ -7,8 +7,8 @@ use Rattle.j_entity.specs.Heights.{verb_height}
 use Rattle.j_entity.specs.Ranks.{verb_ranks}
 use Rattle.j_verbs.specs.State.{◌>>=◌, fail, counted}
 use Rattle.j_verbs.specs.ByRank.{Doing, by_ranks}
-use Rattle.j_verbs.specs.Words.{word}
-use Rattle.j_eval.specs.Names.{verb_named}
+use Rattle.j_eval.specs.Names.{locale_named, verb_named, visiting}
+use Rattle.j_eval.specs.RunVerbs.{spoken}
 use Rattle.j_eval.specs.Trains.{is_cap, forked, noun_forked, hooked}
 use Rattle.j_eval.specs.Operands.{Operand, unformed}
 use Rattle.j_eval.specs.Modifiers.{adverb, conjunction}
@@ -21,14 +21,14 @@ Calls = ℕ → VerbTree → Doing
 abbrev pub call : Calls → VerbTree → Doing
 call calls v = calls (verb_height v) v
 
--- A name on one cell or two: it is looked up, which is a step, and the verb that it holds then is called.
+-- A name on one cell or two: it is looked up, which is a step, and the verb that it holds then is called, in the locale of a locative.
 abbrev pub named_cell : Calls → NameParts → Doing
-named_cell calls n x y = counted (verb_named n >>= (λ v. call calls v x y))
+named_cell calls n x y = counted (locale_named n >>= (λ l. verb_named n >>= (λ v. visiting l (call calls v x y))))
 
 abbrev mutual
   -- What a verb does on one cell or two. Its parts are applied by their own ranks. Bodies aren't applied yet.
   pub cell : Calls → VerbTree → Doing
-  cell calls (primitive p) = word p
+  cell calls (primitive p) = spoken p
   cell calls (named n r) = named_cell calls n
   cell calls (fork f g h) = forked (is_cap f) (by_ranks (verb_ranks f) (cell calls f)) (by_ranks (verb_ranks g) (cell calls g)) (by_ranks (verb_ranks h) (cell calls h))
   cell calls (noun_fork n g h) = noun_forked n (by_ranks (verb_ranks g) (cell calls g)) (by_ranks (verb_ranks h) (cell calls h))

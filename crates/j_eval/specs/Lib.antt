@@ -2,6 +2,9 @@ pub mod Halting
 pub mod Table
 pub mod Stack
 pub mod Names
+pub mod Showing
+pub mod RunVerbs
+pub mod Several
 pub mod Trains
 pub mod Operands
 pub mod Compositions

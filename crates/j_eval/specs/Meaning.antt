@@ -1,11 +1,7 @@
 -- What a sentence does.
-use Rattle.std.specs.Prelude.{ℕ, zero, suc, ◌+◌, ◌*◌, nat_le, ◌==◌, ◌&&◌, Bool, true, false, List, [], ◌∷◌, ◌++◌, length, drop, map, reverse, Option, Some, None, Result, Ok, Err, if◌then◌else◌}
+use Rattle.std.specs.Prelude.{ℕ, zero, suc, ◌+◌, ◌*◌, ◌==◌, ◌&&◌, Bool, true, false, List, [], ◌∷◌, length, drop, map, reverse, Option, Some, None, Result, Ok, Err, if◌then◌else◌}
 use Rattle.j_definitions.specs.declared.Fault.{Fault}
-use Rattle.j_definitions.specs.declared.Kind.{Kind}
-use Rattle.j_definitions.specs.declared.Kind.TheVariants.{Number, Character, Boxed}
-use Rattle.j_definitions.specs.declared.Fault.TheVariants.{Syntax, Limit, Domain, Value, Nonce}
-use Rattle.j_display.specs.Display.{entity_rows}
-use Rattle.j_display.specs.Rows.{joined as joined_rows}
+use Rattle.j_definitions.specs.declared.Fault.TheVariants.{Syntax, Domain, Value}
 use Rattle.j_noun.specs.declared.ranks.RankPart.{RankPart}
 use Rattle.j_leaves.specs.Names.{NameParts}
 use Rattle.j_entity.specs.Ranks.{verb_ranks, endless}
@@ -16,8 +12,10 @@ use Rattle.j_eval.specs.declared.stack.Row.TheVariants as row
 use Rattle.j_eval.specs.Applying.{Calls, call, nested}
 use Rattle.j_eval.specs.Stack.{slot_operand, word_at, entity_at, noun_at, verb_at, operand_at, adverb_at, conjunction_at, then_in, replaced}
 use Rattle.j_eval.specs.Names.{found, set_name}
+use Rattle.j_eval.specs.Several.{set_text}
+pub use Rattle.j_eval.specs.Showing.{most_shown, shown_as, show, show_unless}
 use Rattle.j_eval.specs.Table.{Slot, Start, Word, slot_at, row_of, is_start, is_copula, kind_at}
-use Rattle.j_verbs.specs.State.{Gave, Erred, Run, ◌>>=◌, pure, fail, counted, or_fault, Unit0}
+use Rattle.j_verbs.specs.State.{Run, ◌>>=◌, pure, fail, counted, or_fault, Unit0}
 
 -- a conjunction and a rank list right of it
 abbrev pub ranked : EntityTree → List RankPart → Result EntityTree Fault
@@ -37,18 +35,12 @@ abbrev pub is_local : Option Slot → Bool
 is_local (Some (Word local_copula)) = true
 is_local _ = false
 
--- why nothing is assigned to a noun: names in a text aren't read yet, and other nouns are no names
-abbrev pub no_names : Kind → Fault
-no_names Number = Domain
-no_names Character = Nonce
-no_names Boxed = Domain
-
--- what a row does left of a copula: a name is given the entity
+-- what a row does left of a copula: a name is given the entity, or the names of a text
 abbrev pub assigned : Bool → Option Slot → EntityTree → Run Unit0
 assigned local None e = fail Domain
 assigned local (Some Start) e = fail Domain
 assigned local (Some (Word (name n))) e = set_name local n e
-assigned local (Some (Word (entity (a_noun y)))) e = fail (no_names y.kind)
+assigned local (Some (Word (entity (a_noun y)))) e = set_text local y e
 assigned local (Some (Word (entity (a_verb v)))) e = fail Domain
 assigned local (Some (Word (entity (an_adverb a)))) e = fail Domain
 assigned local (Some (Word (entity (a_conjunction c)))) e = fail Domain
@@ -262,24 +254,6 @@ queue_of words = reverse (Start ∷ map Word words)
 -- The value of a sentence. Each word is moved once and goes in a row once, so the bound is enough.
 abbrev pub sentence : Calls → List WordTree → Run Given
 sentence calls words = counted (parsed (2 * length words + 3) calls false (queue_of words) [])
-
--- most bytes that a top line shows
-abbrev pub most_shown : ℕ
-most_shown = 67108864
-
--- the bytes that a value shows: its rows, each with a line feed
-abbrev pub shown_as : EntityTree → List ℕ
-shown_as e = joined_rows (entity_rows e)
-
-abbrev pub show : EntityTree → Run Unit0
-show e s =
-    if nat_le (length s.shown + length (shown_as e)) most_shown
-    then Gave tt (record s { shown = s.shown ++ shown_as e })
-    else Erred Limit s
-
-abbrev pub show_unless : Bool → EntityTree → Run Unit0
-show_unless true e = pure tt
-show_unless false e = show e
 
 -- A sentence whose value is shown, unless its last row was an assignment.
 abbrev pub executed : Calls → List WordTree → Run EntityTree

@@ -68,11 +68,10 @@ Meets r m o = MeetsAs (λ a. a) r m o
 abbrev pub MeetsAt : {A B : Type 0} → B → Result A Halt → Running → Outcome B → Type 0
 MeetsAt b r m o = MeetsAs (λ _. b) r m o
 
--- Steps are only counted up, and within a sentence nothing is shown, the budget stays, and so does what the machine is fit for.
+-- Steps are only counted up, the budget stays, and so does what the machine is fit for.
 pub record Onward (m n : Running) : Type 0 where
   pub steps : m.state.steps ≤ n.state.steps
   pub budget : n.state.budget ≡ m.state.budget
-  pub shown : n.state.shown ≡ m.state.shown
   pub readiness : n.readiness ≡ m.readiness
 
 -- The machine is as before, but for what it has asked of its pool.

@@ -103,6 +103,10 @@ gave e steps shown = Gave e (after steps shown)
 abbrev pub f_is : EntityTree → Scopes
 f_is e = put begun target.Current f.base e
 
+-- and so do a and b
+abbrev pub a_and_b : EntityTree → EntityTree → Scopes
+a_and_b d e = put (put begun target.Current (codes "a") d) target.Current (codes "b") e
+
 -- and so does f in the locale p
 abbrev pub f_of_p_is : EntityTree → Scopes
 f_of_p_is e = put begun (target.Locale (codes "p")) f.base e

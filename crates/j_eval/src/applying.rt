@@ -5,13 +5,14 @@ ghost use Rattle.j_entity.specs.Heights.{verb_height};
 ghost use Rattle.j_entity.specs.View.{operand_of};
 ghost use Rattle.j_eval.specs.Applying.{Calls, apply, call, cell, does, named_cell, nested};
 ghost use Rattle.j_eval.specs.Meets.{Kept, Meets, Onward};
-ghost use Rattle.j_verbs.specs.Words.{word};
+ghost use Rattle.j_eval.specs.Names.{visiting};
 
 use crate::by_rank::EachCell;
 use crate::machine::Machine;
 use crate::outcome::{Halt, or_halt};
-use j_entity::{Operand, Primitive, Tree, Verb};
-use j_leaves::Name;
+use crate::run_verbs::run_verb;
+use j_entity::{Operand, Tree, Verb};
+use j_leaves::{Name, Text};
 use j_noun::{Fault, Noun};
 
 // The levels left in a call of a verb, where there are enough.
@@ -23,34 +24,22 @@ fn levels_below(room: u32, v: &Verb) -> Option<u32>
 }
 
 impl Machine {
-    // A word on one cell or two.
-    #[tactic(auto, using(crate::proofs::Parts::gives_meets))]
-    fn word(&mut self, p: Primitive, x: Option<&Noun>, y: &Noun) -> Result<Noun, Halt>
-        ensures gives { Meets result self.new (word p (option_copied x.entry) y.now self.old.state) }
-        ensures onward { Onward self.old self.new }
-    {
-        // At two places, so that it keeps a frame of its own.
-        match x {
-            Some(_) => or_halt(j_verbs::cell(&mut self.pool, p, x, y)),
-            None => or_halt(j_verbs::cell(&mut self.pool, p, None, y)),
-        }
-    }
-
     // What a word gives on all its cells at once, where it is served so.
-    #[tactic(auto, unfolding(crate::specs::Applying::apply), using(crate::proofs::Parts::gives_meets))]
+    #[tactic(auto, unfolding(crate::specs::Applying::apply), using(crate::proofs::Visits::spoken_whole))]
     fn whole(&mut self, v: &Verb, x: Option<&Noun>, y: &Noun) -> Option<Result<Noun, Halt>>
         ensures gives { IfSome result (λ a. (calls : Calls) → Meets a self.new (apply calls v.now (option_copied x.entry) y.now self.old.state)) }
         ensures kept { Kept self.old self.new }
     {
         match v.tree() {
-            Tree::Primitive(p) => Some(or_halt(j_verbs::whole(
+            Tree::Primitive(p) if run_verb(p).is_none() => Some(or_halt(j_verbs::whole(
                 &mut self.pool,
                 p,
                 v.ranks(),
                 x,
                 y,
             )?)),
-            Tree::Named(_, _)
+            Tree::Primitive(_)
+            | Tree::Named(_, _)
             | Tree::Fork(_, _, _)
             | Tree::NounFork(_, _, _)
             | Tree::Hook(_, _)
@@ -150,7 +139,7 @@ impl Machine {
         }
     }
 
-    // A name on one cell or two: a step, and a call of the verb that the name holds then.
+    // A name on one cell or two: a step, and a call of the verb that the name holds then, in the locale of a locative.
     #[cycle(eval)]
     fn named_cell(
         &mut self,
@@ -163,9 +152,49 @@ impl Machine {
         ensures onward { Onward self.old self.new }
     {
         self.tick()?;
+        let locale = self.locale_named(name)?;
         let v = self.verb_named(name)?;
-        let answer = self.call(room, &v, x, y);
+        let answer = self.visiting(room, locale, &v, x, y);
         drop(v);
+        answer
+    }
+
+    // A call of a verb, in a locale where there is one.
+    #[cycle(eval)]
+    fn visiting(
+        &mut self,
+        room: u32,
+        locale: Option<Text>,
+        v: &Verb,
+        x: Option<&Noun>,
+        y: &Noun,
+    ) -> Result<Noun, Halt>
+        ensures gives { Meets result self.new (visiting locale (call (nested room) v.now (option_copied x.entry) y.now) self.old.state) }
+        ensures onward { Onward self.old self.new }
+    {
+        match locale {
+            None => self.call(room, v, x, y),
+            Some(locale) => self.visit(room, locale, v, x, y),
+        }
+    }
+
+    // A call of a verb in a locale. However it ends, the current locale is then what it was.
+    #[cycle(eval)]
+    #[tactic(auto, using(crate::proofs::Visits::back_meets))]
+    fn visit(
+        &mut self,
+        room: u32,
+        locale: Text,
+        v: &Verb,
+        x: Option<&Noun>,
+        y: &Noun,
+    ) -> Result<Noun, Halt>
+        ensures gives { Meets result self.new (visiting (Some locale) (call (nested room) v.now (option_copied x.entry) y.now) self.old.state) }
+        ensures onward { Onward self.old self.new }
+    {
+        let former = self.switch_locale(locale);
+        let answer = self.call(room, v, x, y);
+        drop(self.switch_locale(former));
         answer
     }
 }

@@ -13,7 +13,9 @@ mod pieces;
 mod powers;
 mod ranked;
 mod rows;
+mod run_verbs;
 mod sentence;
+mod several;
 mod sources;
 mod stack;
 mod trains;
@@ -23,6 +25,6 @@ pub use j_explicit::{LineFault, prepare};
 pub use machine::Machine;
 pub use outcome::{Halt, Outcome};
 pub use rows::{
-    insertion_rows, modifier_rows, name_rows, parsing_laws, piece_rows, power_rows, table_rows,
+    insertion_rows, modifier_rows, name_rows, parsing_laws, piece_rows, power_rows, run_rows, several_rows, table_rows,
     under_rows, worked_rows,
 };

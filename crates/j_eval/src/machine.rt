@@ -4,18 +4,18 @@ ghost use Rattle.std.specs.Option.{option_copied};
 ghost use Rattle.j_definitions.specs.Array.{Array};
 ghost use Rattle.j_entity.specs.Tree.{EntityTree};
 ghost use Rattle.j_entity.specs.View.{entity_of, word_of};
-ghost use Rattle.j_names.specs.Names.{begun};
-ghost use Rattle.j_eval.specs.Names.{found, set_name, verb_named};
+ghost use Rattle.j_names.specs.Names.{begun, target_of, put};
+ghost use Rattle.j_eval.specs.Names.{found, in_locale, locale_named, set_name, verb_named};
 ghost use Rattle.j_eval.specs.Applying.{call, nested};
-ghost use Rattle.j_verbs.specs.State.{Outcome as OutcomeOf, one_step};
+ghost use Rattle.j_verbs.specs.State.{Outcome as OutcomeOf, one_step, or_fault};
 ghost use Rattle.j_eval.specs.Meaning.{top, show, show_unless, executed, most_levels};
-ghost use Rattle.j_eval.specs.Meets.{Running, Answers, AnswersCall, Stays, StaysIn, Meets, MeetsAs, Onward, ready};
+ghost use Rattle.j_eval.specs.Meets.{Running, Answers, AnswersCall, Stays, StaysIn, Meets, MeetsAs, NoMemoryOr, Onward, ready};
 
 use crate::outcome::{Halt, Outcome};
 use j_display as display;
 use j_entity::{Entity, Item, Prepared, Verb};
-use j_leaves::Name;
-use j_names::Names;
+use j_leaves::{Name, Text};
+use j_names::{Names, Target};
 use j_noun::{Fault, NoMemory, Noun, Pool};
 use std::alloc::Global;
 use std::marker::Model;
@@ -190,7 +190,6 @@ impl Machine {
 
     // Evaluates a sentence and shows its value.
     fn execute(&mut self, items: &[Item]) -> Result<Entity, Halt>
-        requires { length self.old.state.shown ≤ 67108864 }
         ensures gives { MeetsAs entity_of result self.new (executed (nested most_levels) (mapped word_of items.now) self.old.state) }
         ensures budget { self.new.state.budget ≡ self.old.state.budget }
         ensures readiness { self.new.readiness ≡ self.old.readiness }
@@ -202,7 +201,6 @@ impl Machine {
 
     // Shows a value, unless it is assigned.
     fn show_unless(&mut self, quiet: bool, e: &Entity) -> Result<(), Halt>
-        requires { length self.old.state.shown ≤ 67108864 }
         ensures gives { Meets result self.new (show_unless quiet (entity_of e.now) self.old.state) }
         ensures budget { self.new.state.budget ≡ self.old.state.budget }
         ensures readiness { self.new.readiness ≡ self.old.readiness }
@@ -219,6 +217,22 @@ impl Machine {
         ensures { MeetsAs (λ o. option_map (λ e. entity_of e.now) o) result self.now (found name.now self.now.state) }
     {
         Ok(self.names.get(name)?)
+    }
+
+    // The locale that a locative names, none for a simple name.
+    #[tactic(auto, using(crate::proofs::Visits::refused_part))]
+    pub(crate) fn locale_named(&self, name: &Name) -> Result<Option<Text>, Halt>
+        ensures { Meets result self.now (locale_named name.now self.now.state) }
+    {
+        Ok(self.names.locale(name)?)
+    }
+
+    // Makes a locale the current one, and hands back the one that was.
+    pub(crate) fn switch_locale(&mut self, to: Text) -> Text
+        ensures former { result ≡ self.old.state.names.current }
+        ensures now { self.new ≡ record self.old { state = in_locale to self.old.state } }
+    {
+        self.names.switch_locale(to)
     }
 
     // The verb that a name holds.
@@ -246,6 +260,22 @@ impl Machine {
         }
     }
 
+    // Where a copula puts what a name is given.
+    #[tactic(auto, using(crate::proofs::Visits::refused_part))]
+    pub(crate) fn target(&self, name: &Name, local: bool) -> Result<Target, Halt>
+        ensures { Meets result self.now (or_fault (target_of local self.now.state.names name.now) self.now.state) }
+    {
+        Ok(self.names.target(name, local)?)
+    }
+
+    // Lets a name hold this entity at a target.
+    pub(crate) fn put(&mut self, target: &Target, name: &Text, e: Entity) -> Result<(), Halt>
+        ensures gives { NoMemoryOr result (λ _. self.new.state ≡ record self.old.state { names = put self.old.state.names target.now name.now (entity_of e) }) }
+        ensures onward { Onward self.old self.new }
+    {
+        Ok(self.names.put(target, name, e)?)
+    }
+
     // Counts a step.
     pub(crate) fn tick(&mut self) -> Result<(), Halt>
         ensures gives { Meets result self.new (one_step self.old.state) }
@@ -260,13 +290,13 @@ impl Machine {
     }
 
     // Shows a value.
-    fn show(&mut self, e: &Entity) -> Result<(), Halt>
-        requires { length self.old.state.shown ≤ 67108864 }
+    pub(crate) fn show(&mut self, e: &Entity) -> Result<(), Halt>
         ensures gives { Meets result self.new (show (entity_of e.now) self.old.state) }
-        ensures budget { self.new.state.budget ≡ self.old.state.budget }
-        ensures readiness { self.new.readiness ≡ self.old.readiness }
+        ensures onward { Onward self.old self.new }
     {
-        let room = MOST_SHOWN - self.shown.len();
+        let Some(room) = MOST_SHOWN.checked_sub(self.shown.len()) else {
+            return Err(Halt::Failed(Fault::Limit));
+        };
         Ok(display::show(&mut self.pool, e, room, &mut self.shown)?)
     }
 }

@@ -1,23 +1,28 @@
 // Sentences worked out by hand.
 ghost use Rattle.std.specs.Prelude.{◌≡◌, ◌++◌, ◌∷◌, [], Ok, Some, None, codes, pos, negsuc};
+ghost use Rattle.j_definitions.specs.Array.{atom_array, boxed};
 ghost use Rattle.j_definitions.specs.declared.Fault.TheVariants as fault;
+ghost use Rattle.j_definitions.specs.declared.Kind.TheVariants.{Boxed};
 ghost use Rattle.j_leaves.specs.declared.primitive.Primitive.TheVariants as p;
 ghost use Rattle.j_leaves.specs.declared.modifier.Modifier.TheVariants as m;
 ghost use Rattle.j_noun.specs.declared.ranks.RankPart.TheVariants.{Infinite};
 ghost use Rattle.j_names.specs.Names.{Scopes, look};
-ghost use Rattle.j_names.specs.Rows.{f, f_in_p};
+ghost use Rattle.j_names.specs.Rows.{f, f_in_p, letter, text, box};
+ghost use Rattle.j_eval.specs.Names.{in_locale, back_in};
+ghost use Rattle.j_eval.specs.RunVerbs.{no_rows};
+ghost use Rattle.j_eval.specs.Several.{set_text};
 ghost use Rattle.j_entity.specs.Ranks.{endless, of, same};
-ghost use Rattle.j_entity.specs.Tree.{primitive, named, hook, derived, derived2, a_noun, a_verb, name, ranks_word, open_mark, close_mark, local_copula, global_copula};
+ghost use Rattle.j_entity.specs.Tree.{primitive, named, fork, hook, derived, derived2, a_noun, a_verb, name, ranks_word, open_mark, close_mark, local_copula, global_copula};
 ghost use Rattle.j_entity.specs.Tree as operand;
 ghost use Rattle.j_eval.specs.declared.stack.EntryKind.{EntryKind};
 ghost use Rattle.j_eval.specs.declared.stack.EntryKind.TheVariants as kind;
 ghost use Rattle.j_eval.specs.declared.stack.Row.TheVariants as row;
-ghost use Rattle.j_verbs.specs.State.{State, Gave, Erred, Spent};
+ghost use Rattle.j_verbs.specs.State.{State, Gave, Erred, Spent, Unit0};
 ghost use Rattle.j_eval.specs.Applying.{call, nested};
 ghost use Rattle.j_eval.specs.Table.{row_at};
 ghost use Rattle.j_eval.specs.Meaning.{top};
 ghost use Rattle.j_eval.specs.Laws.{BoundIsEnough};
-ghost use Rattle.j_eval.specs.Rows.{atom, character, list, noun, verb, plus, minus, times, at, joining, swapped, amending, shaped, inserted, dotted, under, on_parts, cut_by, on_one, on_two, within, after, knowing, f_is, f_of_p_is, top_of, gave};
+ghost use Rattle.j_eval.specs.Rows.{atom, character, list, noun, verb, plus, minus, times, at, joining, swapped, amending, shaped, inserted, dotted, under, on_parts, cut_by, on_one, on_two, within, after, knowing, f_is, a_and_b, f_of_p_is, top_of, gave};
 
 /// Laws: which row four entries match, worked out by hand.
 pub fn table_rows()
@@ -183,6 +188,42 @@ pub fn name_rows()
     ensures no_verb { (names : Scopes) → look names f ≡ Ok (Some (a_noun (atom (pos 5)))) → call (nested 9) (named f endless) None (atom (pos 1)) (knowing names 0 []) ≡ Erred fault.Value (knowing names 1 []) }
     ensures itself { (names : Scopes) → look names f ≡ Ok (Some (a_verb (named f endless))) → call (nested 3) (named f endless) None (atom (pos 1)) (knowing names 0 []) ≡ Erred fault.Stack (knowing names 3 []) }
     ensures spent { (names : Scopes) → look names f ≡ Ok (Some (a_verb (primitive p.Minus))) → call (nested 9) (named f (same (of 0))) None (list (pos 1 ∷ pos 2 ∷ [])) (knowing names 99 []) ≡ Spent (knowing names 100 []) }
+{}
+
+/// Laws: the verbs that change the state of a run, worked out by hand. What is shown comes in the order of the calls, and a locale that is switched to stays.
+pub fn run_rows()
+    ensures shows { on_one (primitive p.Echo) (atom (pos 5)) (after 0 []) ≡ Gave no_rows (after 0 (codes "5" ++ 10 ∷ [])) }
+    ensures behind { on_one (primitive p.Echo) (atom (pos 5)) (after 0 (codes "4" ++ 10 ∷ [])) ≡ Gave no_rows (after 0 (codes "4" ++ 10 ∷ codes "5" ++ 10 ∷ [])) }
+    ensures no_dyad { on_two (atom (pos 3)) (primitive p.Echo) (atom (pos 4)) (after 0 []) ≡ Erred fault.Domain (after 0 []) }
+    ensures right_first { on_one (fork (primitive p.Echo) (primitive p.Left) (derived2 m.At (operand.verb (primitive p.Echo)) (operand.verb (primitive p.Minus)))) (atom (pos 1)) (after 0 [])
+        ≡ Gave no_rows (after 0 (codes "_1" ++ 10 ∷ codes "1" ++ 10 ∷ [])) }
+    ensures switches { on_one (primitive p.Cocurrent) (text (codes "q1")) (after 0 []) ≡ Gave no_rows (in_locale (codes "q1") (after 0 [])) }
+    ensures switches_by_box { on_one (primitive p.Cocurrent) (atom_array Boxed (boxed (letter 112))) (after 0 []) ≡ Gave no_rows (in_locale (codes "p") (after 0 [])) }
+    ensures number { on_one (primitive p.Cocurrent) (atom (pos 3)) (after 0 []) ≡ Erred fault.Domain (after 0 []) }
+    ensures empty { on_one (primitive p.Cocurrent) (text []) (after 0 []) ≡ Erred fault.Domain (after 0 []) }
+    ensures blank { on_one (primitive p.Cocurrent) (text (codes "a b")) (after 0 []) ≡ Erred fault.Domain (after 0 []) }
+    ensures low { on_one (primitive p.Cocurrent) (text (codes "a_")) (after 0 []) ≡ Erred fault.Domain (after 0 []) }
+    ensures no_dyad_either { on_two (atom (pos 1)) (primitive p.Cocurrent) (text (codes "p")) (after 0 []) ≡ Erred fault.Domain (after 0 []) }
+    ensures back { (s : State) → back_in (codes "base") (Gave tt (in_locale (codes "p") s)) ≡ Gave {A = Unit0} tt (in_locale (codes "base") s) }
+    ensures back_after_error { (s : State) → back_in (codes "base") (Erred {A = Unit0} fault.Domain (in_locale (codes "p") s)) ≡ Erred fault.Domain (in_locale (codes "base") s) }
+{}
+
+/// Laws: assignments to the names of a text, worked out by hand.
+pub fn several_rows()
+    ensures two { set_text false (text (codes "a b")) (a_noun (list (pos 3 ∷ pos 4 ∷ []))) (after 0 []) ≡ Gave tt (knowing (a_and_b (a_noun (atom (pos 3))) (a_noun (atom (pos 4)))) 0 []) }
+    ensures blanks { set_text true (text (codes " a  b ")) (a_noun (list (pos 1 ∷ pos 2 ∷ []))) (after 0 []) ≡ Gave tt (knowing (a_and_b (a_noun (atom (pos 1))) (a_noun (atom (pos 2)))) 0 []) }
+    ensures to_all { set_text false (text (codes "a b")) (a_noun (atom (pos 5))) (after 0 []) ≡ Gave tt (knowing (a_and_b (a_noun (atom (pos 5))) (a_noun (atom (pos 5)))) 0 []) }
+    ensures box_to_all { set_text false (text (codes "a b")) (box (letter 112)) (after 0 []) ≡ Gave tt (knowing (a_and_b (a_noun (letter 112)) (a_noun (letter 112))) 0 []) }
+    ensures opened { set_text false (text (codes "a b")) (a_noun (record { kind = Boxed; shape = 2 ∷ []; atoms = boxed (atom (pos 1)) ∷ boxed (text (codes "xy")) ∷ [] })) (after 0 [])
+        ≡ Gave tt (knowing (a_and_b (a_noun (atom (pos 1))) (a_noun (text (codes "xy")))) 0 []) }
+    ensures too_many { set_text false (text (codes "a b")) (a_noun (list (pos 1 ∷ pos 2 ∷ pos 3 ∷ []))) (after 0 []) ≡ Erred fault.Length (after 0 []) }
+    ensures too_few { set_text false (text (codes "a b")) (a_noun (list (pos 1 ∷ []))) (after 0 []) ≡ Erred fault.Length (after 0 []) }
+    ensures one_whole { set_text false (text (codes "f")) (a_noun (list (pos 1 ∷ pos 2 ∷ []))) (after 0 []) ≡ Gave tt (knowing (f_is (a_noun (list (pos 1 ∷ pos 2 ∷ [])))) 0 []) }
+    ensures one_verb { set_text false (letter 102) (a_verb (primitive p.Plus)) (after 0 []) ≡ Gave tt (knowing (f_is (a_verb (primitive p.Plus))) 0 []) }
+    ensures several_verbs { set_text false (text (codes "a b")) (a_verb (primitive p.Plus)) (after 0 []) ≡ Erred fault.Domain (after 0 []) }
+    ensures no_name { set_text false (text (codes "a 1")) (a_noun (list (pos 3 ∷ pos 4 ∷ pos 5 ∷ []))) (after 0 []) ≡ Erred fault.Domain (after 0 []) }
+    ensures no_names { set_text false (text (codes "  ")) (a_noun (atom (pos 1))) (after 0 []) ≡ Erred fault.Domain (after 0 []) }
+    ensures number { set_text false (atom (pos 5)) (a_noun (atom (pos 3))) (after 0 []) ≡ Erred fault.Domain (after 0 []) }
 {}
 
 /// Laws: each word is moved once and goes in a row once, so the bound of a sentence is never met.

@@ -6,7 +6,7 @@ ghost use Rattle.j_noun.specs.Refused.{OrWantingAs};
 ghost use Rattle.j_eval.specs.Applying.{nested};
 ghost use Rattle.j_eval.specs.Stack.{stack_of, slot_of};
 ghost use Rattle.j_eval.specs.Table.{Word};
-ghost use Rattle.j_eval.specs.Meaning.{ranked, entity_bident, is_local, no_names, assigned, monad_at, dyad_at, modified, joined, train, bident, assignment, formed, made, kept, used, reduced, is_assignment, name_moved, word_moved, moved, value_of, finished, sentence};
+ghost use Rattle.j_eval.specs.Meaning.{ranked, entity_bident, is_local, assigned, monad_at, dyad_at, modified, joined, train, bident, assignment, formed, made, kept, used, reduced, is_assignment, name_moved, word_moved, moved, value_of, finished, sentence};
 ghost use Rattle.j_eval.specs.Meets.{Meets, MeetsAs, MeetsAt, IsPartAs, NoMemoryOr, Onward, given_of};
 ghost use Rattle.j_verbs.specs.State.{or_fault};
 
@@ -18,7 +18,7 @@ use crate::stack::{
 };
 use j_entity::{Entity, Item, Operand, Operator, OperatorParts, Tree, Verb};
 use j_leaves::{Name, Ranks};
-use j_noun::{Fault, Kind, Rank, RankList, Refusal};
+use j_noun::{Fault, Rank, RankList, Refusal};
 use j_trains as trains;
 use std::alloc::Global;
 
@@ -113,16 +113,6 @@ fn name_verb(alloc: Global, name: &Name, ranks: Ranks) -> Result<Entity, Halt>
     ensures { NoMemoryOr result (λ e. entity_of e ≡ a_verb (named name.now ranks)) }
 {
     Ok(Entity::Verb(Verb::named(alloc, name.duplicate()?, ranks)?))
-}
-
-// Why nothing is assigned to a noun.
-fn no_names(kind: Kind) -> Fault
-    ensures { result ≡ no_names kind }
-{
-    match kind {
-        Kind::Character => Fault::Nonce,
-        Kind::Number | Kind::Boxed => Fault::Domain,
-    }
 }
 
 // Whether a copula is `=.`.
@@ -301,16 +291,14 @@ impl Machine {
         Ok(Entity::Noun(self.call(room, v, Some(x), y)?))
     }
 
-    // What stands left of a copula is given an entity, where it is a name.
+    // What stands left of a copula is given an entity, where it is a name or a text of names.
     fn assign(&mut self, local: bool, left: Option<&Entry>, e: Entity) -> Result<(), Halt>
         ensures gives { Meets result self.new (assigned local (option_map (λ s. slot_of s.now) left.entry) (entity_of e) self.old.state) }
         ensures onward { Onward self.old self.new }
     {
         match left {
             Some(Entry::Word(Item::Name(name))) => self.set_name(local, name.duplicate()?, e),
-            Some(Entry::Word(Item::Entity(Entity::Noun(y)))) => {
-                Err(Halt::Failed(no_names(y.kind())))
-            }
+            Some(Entry::Word(Item::Entity(Entity::Noun(y)))) => self.set_text(local, y, e),
             None
             | Some(
                 Entry::Start

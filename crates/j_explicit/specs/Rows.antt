@@ -5,6 +5,7 @@ use Rattle.j_definitions.specs.declared.Kind.TheVariants.{Number, Character}
 use Rattle.j_leaves.specs.declared.primitive.Primitive.{Primitive}
 use Rattle.j_leaves.specs.declared.modifier.Modifier.{Modifier}
 use Rattle.j_leaves.specs.declared.name.Place.TheVariants.{Here}
+use Rattle.j_leaves.specs.declared.name.Place.{Place}
 use Rattle.j_entity.specs.Tree.{WordTree, entity, name, a_noun, a_verb, a_conjunction, primitive, modifier}
 
 abbrev pub atom : ℤ → WordTree
@@ -24,6 +25,10 @@ verb p = entity (a_verb (primitive p))
 
 abbrev pub conjunction : Modifier → WordTree
 conjunction m = entity (a_conjunction (modifier m))
+
+-- a name at a place
+abbrev pub located : List ℕ → Place → WordTree
+located bytes place = name (record { base = bytes; place = place })
 
 -- a name that is no locative
 abbrev pub simple : List ℕ → WordTree

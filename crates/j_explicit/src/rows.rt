@@ -8,11 +8,12 @@ ghost use Rattle.j_words.specs.Vocabulary.{look_up, class_or_name, is_simple_nam
 ghost use Rattle.j_words.specs.declared.Class.TheVariants as class;
 ghost use Rattle.j_leaves.specs.declared.primitive.Primitive.TheVariants as p;
 ghost use Rattle.j_leaves.specs.declared.modifier.Modifier.TheVariants as m;
+ghost use Rattle.j_leaves.specs.declared.name.Place.TheVariants.{Locale, Object};
 ghost use Rattle.j_entity.specs.Tree.{a_noun, entity, ranks_word, local_copula, global_copula, open_mark, close_mark};
 ghost use Rattle.j_explicit.specs.Reading.{item_as, items_of, reading};
 ghost use Rattle.j_explicit.specs.NounWords.{ace, alphabet};
 ghost use Rattle.j_explicit.specs.Texts.{halved};
-ghost use Rattle.j_explicit.specs.Rows.{atom, list, character, characters, verb, conjunction, simple};
+ghost use Rattle.j_explicit.specs.Rows.{atom, list, character, characters, verb, conjunction, located, simple};
 
 /// Laws: lines worked out by hand.
 pub fn worked_rows()
@@ -28,8 +29,8 @@ pub fn worked_rows()
     ensures no_words { reading (codes "  NB. +") ≡ Ok [] }
     ensures name { reading (codes "f 1") ≡ Ok (simple (codes "f") ∷ atom (pos 1) ∷ []) }
     ensures assigned { reading (codes "a_1=:+") ≡ Ok (simple (codes "a_1") ∷ global_copula ∷ verb p.Plus ∷ []) }
-    ensures direct_locative { reading (codes "f_z_ 1") ≡ Err fault.Nonce }
-    ensures object_locative { reading (codes "f__z 1") ≡ Err fault.Nonce }
+    ensures direct_locative { reading (codes "f_z_ 1") ≡ Ok (located (codes "f") (Locale (codes "z")) ∷ atom (pos 1) ∷ []) }
+    ensures object_locative { reading (codes "f__z 1") ≡ Ok (located (codes "f") (Object (codes "z")) ∷ atom (pos 1) ∷ []) }
     ensures no_name { reading (codes "f_ 1") ≡ Err fault.Spelling }
     ensures text { reading (codes "f =: 'abc'") ≡ Ok (simple (codes "f") ∷ global_copula ∷ characters (codes "abc") ∷ []) }
     ensures doubled_quote { reading (codes "'it''s'") ≡ Ok (characters (codes "it's") ∷ []) }

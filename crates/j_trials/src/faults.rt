@@ -94,9 +94,9 @@ fn errors_of_form(rt: HostRuntime) -> Result<(), Fail> {
         ("f =: 3\n", "f + abc.", "spelling"),
         ("", "f_ =: 3", "spelling"),
         ("", "f__ 1", "spelling"),
-        ("", "f_z_ =: 3", "nonce"),
-        ("", "f__z 1", "nonce"),
-        ("", "'f' =: 5", "nonce"),
+        ("", "f__z =: 3", "value"),
+        ("", "f__z 1", "value"),
+        ("", "'f 1' =: 5", "domain"),
         ("", "f =: 1e19", "overflow"),
     ];
     fail(&rt, alloc, &rows)

@@ -131,7 +131,7 @@ fn faults_in_order(rt: HostRuntime) -> Result<(), Fail> {
         ("f + 1e19", "overflow"),
         ("() 1e19", "overflow"),
         ("3 =: f", "domain"),
-        ("1 2 + 1 2 3 + f_z_", "nonce"),
+        ("1 2 + 1 2 3 + %: 4", "nonce"),
     ];
     fail_rows(&rt, alloc, &rows)
 }

@@ -33,7 +33,7 @@ fn run(
 fn names(rt: HostRuntime) -> Result<(), Fail> {
     let alloc = rt.alloc();
     // Lines, the steps of all, and what the last one shows. A look-up is a step for each cell.
-    let rows: [(&str, u64, &str); 26] = [
+    let rows: [(&str, u64, &str); 29] = [
         ("f =: +", 2, ""),
         ("(a =: 5)", 3, "5\n"),
         ("3 + a =: 5", 3, "8\n"),
@@ -41,6 +41,10 @@ fn names(rt: HostRuntime) -> Result<(), Fail> {
         ("a =: b =: 2\na + b", 5, "4\n"),
         // the sentence, row 0 and three look-ups
         ("f =: +\nf 1 2 3", 7, "1 2 3\n"),
+        // a built-in verb is a name too
+        ("echo 1", 3, "1\n"),
+        ("(echo , echo) 1", 6, "1\n1\n"),
+        ("f_p_ =: 3 + ]\nf_p_ 4", 6, "7\n"),
         ("f =: -\n1 2 3 f 10", 7, "_9 _8 _7\n"),
         ("f =: ]\nf 1 2 3", 5, "1 2 3\n"),
         ("q", 1, ""),

@@ -44,14 +44,14 @@ fault_agrees : (t : Bool) (f g : WordFault) (r : Result Class WordFault) → Agr
 fault_agrees true f g r = tt
 fault_agrees false f g r = tt
 
-name_agrees : (t u : Bool) (f g : WordFault) → Agree (cond t (Ok class.Name) (cond u (Err f) (Err g))) (Ok class.Name)
-name_agrees true u f g = refl
-name_agrees false u f g = fault_agrees u f g (Ok class.Name)
+name_agrees : (t : Bool) (f : WordFault) → Agree (cond t (Ok class.Name) (Err f)) (Ok class.Name)
+name_agrees true f = refl
+name_agrees false f = tt
 
 class_agrees : (f : Form) (word : List ℕ) → Agree (class_of Strict f word) (class_of Formal f word)
 class_agrees form.Text word = refl
 class_agrees form.Number word = refl
-class_agrees form.Name word = name_agrees (is_simple word) (is_direct word || is_object word) _ _
+class_agrees form.Name word = name_agrees (is_simple word || (is_direct word || is_object word)) _
 class_agrees form.Listed word = entry_agrees (look_up word)
 
 word_agrees : (w : Word) (r s : Result (List Word) WordFault) → Agree r s → Agree (with_word w r) (with_word w s)

@@ -6,7 +6,7 @@ use Rattle.j_words.specs.declared.bytes.Set.TheVariants as set
 use Rattle.j_words.specs.declared.Class.{Class}
 use Rattle.j_words.specs.declared.Class.TheVariants as class
 use Rattle.j_words.specs.declared.WordFault.{WordFault}
-use Rattle.j_words.specs.declared.WordFault.TheVariants.{Spelling, Nonce}
+use Rattle.j_words.specs.declared.WordFault.TheVariants.{Spelling}
 
 abbrev pub begins_low : List ℕ → Bool
 begins_low [] = false
@@ -60,6 +60,5 @@ is_object name =
     let n = double_at name in
     nat_lt n (length name) && (is_simple (take n name) && (begins_letter (drop (n + 2) name) && is_simple (drop (n + 2) name)))
 
--- Locatives are left out so far.
 abbrev pub name_class : List ℕ → Result Class WordFault
-name_class name = cond (is_simple name) (Ok class.Name) (cond (is_direct name || is_object name) (Err Nonce) (Err Spelling))
+name_class name = cond (is_simple name || (is_direct name || is_object name)) (Ok class.Name) (Err Spelling)

@@ -107,13 +107,11 @@ fn is_object(name: &[u8]) -> bool
 pub(crate) fn name_class(name: &[u8]) -> Result<Class, WordFault>
     ensures { result ≡ name_class name.now }
 {
-    if is_simple(name) {
-        return Ok(Class::Name);
+    if is_simple(name) || is_direct(name) || is_object(name) {
+        Ok(Class::Name)
+    } else {
+        Err(WordFault::Spelling)
     }
-    if is_direct(name) || is_object(name) {
-        return Err(WordFault::Nonce);
-    }
-    Err(WordFault::Spelling)
 }
 
 /// What a name is, or nothing where the bytes are no name.

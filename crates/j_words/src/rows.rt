@@ -29,8 +29,8 @@ pub fn worked_rows()
     ensures misspelled { words (codes "abc.") ≡ Err fault.Spelling }
     ensures later { words (codes "%: 4") ≡ Err fault.Nonce }
     ensures no_name { words (codes "a__b_c_") ≡ Err fault.Spelling }
-    ensures object { words (codes "a__b") ≡ Err fault.Nonce }
-    ensures locative { words (codes "a_b_c_") ≡ Err fault.Nonce }
+    ensures object { words (codes "a__b") ≡ Ok (is_word class.Name 0 4 ∷ []) }
+    ensures locative { words (codes "a_b_c_") ≡ Ok (is_word class.Name 0 6 ∷ []) }
     ensures name { words (codes "a_b1") ≡ Ok (is_word class.Name 0 4 ∷ []) }
     ensures control { words (codes "for_ab.") ≡ Err fault.Nonce }
     ensures no_control { words (codes "for_a_.") ≡ Err fault.Spelling }
@@ -51,7 +51,7 @@ pub fn worked_rows()
     ensures text_of_a_quote { words (codes "''''") ≡ Ok (is_word class.Text 0 4 ∷ []) }
     ensures open_after_closed { words (codes "'a''") ≡ Err fault.OpenQuote }
     ensures no_letter_in_object { words (codes "a__1") ≡ Err fault.Spelling }
-    ensures locale_of_digits { words (codes "a_0_") ≡ Err fault.Nonce }
+    ensures locale_of_digits { words (codes "a_0_") ≡ Ok (is_word class.Name 0 4 ∷ []) }
     ensures low_alone { words (codes "a_") ≡ Err fault.Spelling }
 {}
 

@@ -67,6 +67,12 @@ decreases-cell l = level * l.room + step * verb_height l.v.now + 25
 abbrev pub decreases-named_cell : goal.decreases-named_cell
 decreases-named_cell l = level * l.room + 3
 
+abbrev pub decreases-visiting : goal.decreases-visiting
+decreases-visiting l = level * l.room + 2
+
+abbrev pub decreases-visit : goal.decreases-visit
+decreases-visit l = level * l.room + 1
+
 abbrev pub decreases-fork : goal.decreases-fork
 decreases-fork l = level * l.room + step * max (verb_height l.f.now) (max (verb_height l.g.now) (verb_height l.h.now)) + 40
 
