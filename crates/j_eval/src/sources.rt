@@ -44,12 +44,37 @@ pub(crate) fn collector(cells: CellsFrom<'_>) -> Collector
 
 // What needs memory, apart from the functions that call each other.
 impl Machine {
-    // Cells k.
+    // Cells k, by a function that is called at two places, so that it keeps a frame of its own.
     pub(crate) fn cells_at(
         &mut self,
         cells: CellsFrom<'_>,
         k: usize,
     ) -> Result<(Option<Noun>, Noun), Halt>
+        requires place { k < product (source_of cells).frame }
+        requires cells { HasCells cells }
+        ensures value { NoMemoryOr result (λ c. c ≡ cells_at cells.entry k) }
+        ensures kept { Kept self.old self.new }
+    {
+        match cells {
+            CellsFrom::Arguments(_, _, _) => self.made_at(cells, k),
+            CellsFrom::Runs(_) | CellsFrom::Groups(_) => self.made_at(cells, k),
+        }
+    }
+
+    // What stands for cells where there are none, likewise.
+    pub(crate) fn fills(&mut self, cells: CellsFrom<'_>) -> Result<(Option<Noun>, Noun), Halt>
+        requires { HasCells cells }
+        ensures gives { Meets result self.new (or_fault (source_of cells.entry).fills self.old.state) }
+        ensures onward { Onward self.old self.new }
+    {
+        match cells {
+            CellsFrom::Arguments(_, _, _) => self.made_of_none(cells),
+            CellsFrom::Runs(_) | CellsFrom::Groups(_) => self.made_of_none(cells),
+        }
+    }
+
+    // Cells k.
+    fn made_at(&mut self, cells: CellsFrom<'_>, k: usize) -> Result<(Option<Noun>, Noun), Halt>
         requires place { k < product (source_of cells).frame }
         requires cells { HasCells cells }
         ensures value { NoMemoryOr result (λ c. c ≡ cells_at cells.entry k) }
@@ -63,7 +88,7 @@ impl Machine {
     }
 
     // What stands for cells where there are none.
-    pub(crate) fn fills(&mut self, cells: CellsFrom<'_>) -> Result<(Option<Noun>, Noun), Halt>
+    fn made_of_none(&mut self, cells: CellsFrom<'_>) -> Result<(Option<Noun>, Noun), Halt>
         requires { HasCells cells }
         ensures gives { Meets result self.new (or_fault (source_of cells.entry).fills self.old.state) }
         ensures onward { Onward self.old self.new }
