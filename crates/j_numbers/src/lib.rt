@@ -13,4 +13,4 @@ pub use fault::NumberFault;
 pub use j_noun::{RankList, RankPart};
 pub use literal::Literal;
 pub use rows::worked_rows;
-pub use words::{read_list, read_noun};
+pub use words::{first_part, read_list, read_noun};

@@ -53,7 +53,7 @@ fn first_blank(text: &[u8]) -> usize
 
 /// The first part of a text and what comes after it, or nothing where the text has no part.
 #[tactic(auto, using(crate::proofs::Parts::no_part))]
-fn first_part(text: &[u8]) -> Option<(&[u8], &[u8])>
+pub fn first_part(text: &[u8]) -> Option<(&[u8], &[u8])>
     ensures { MatchOption result (parts text.now ≡ []) (λ r. (parts text.now ≡ r.0.now ∷ parts r.1.now) × (length r.1.now < length text.now)) }
 {
     let start = first_nonblank(text);

@@ -18,6 +18,7 @@ mod tests;
 mod whole;
 
 pub use atoms::{atom_of, atoms_of_part, box_of, empty_list, fills};
+pub use cells::cell_of;
 pub use collector::Collector;
 pub use common::{common_shape, with_rank};
 pub use gathering::{append_bytes, append_nouns, append_numbers, bits_of, gather};
