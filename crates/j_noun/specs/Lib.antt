@@ -1,3 +1,4 @@
+pub mod Axes
 pub mod Held
 pub mod Falls
 pub mod Viewed

@@ -1,6 +1,7 @@
 //! Nouns: a kind, a shape and a list of atoms.
 #![tactic(auto)]
 
+mod axes;
 mod blocks;
 mod noun;
 mod order;

@@ -11,6 +11,7 @@ ghost use Rattle.j_noun.specs.Refused.{IsRefusedBeyond, OrWanting};
 ghost use Rattle.j_noun.specs.Viewed.{viewed, kind_viewed, ShowsBits};
 ghost use Rattle.j_noun.specs.Held.{IsInline, kind_kept, atoms_kept, array_kept, AreBits, IsMeasured};
 
+use crate::axes::Axes;
 use crate::order::order_runs;
 use crate::refusal::Refusal;
 use crate::shape::Shape;
@@ -41,7 +42,7 @@ enum Held {
 #[cycle(noun)]
 #[derive(Drop)]
 struct Block {
-    shape: Shape,
+    shape: Axes,
     atoms: Atoms,
     weight: usize,
     level: usize,
@@ -187,6 +188,7 @@ impl Noun {
                 return Ok(atom);
             }
         }
+        let shape = Axes::of(pool.alloc(), &shape)?;
         let block = Block {
             shape,
             atoms,
@@ -232,7 +234,7 @@ impl Noun {
     {
         match &self.held {
             Held::Number(_) | Held::Character(_) => Shape::new(),
-            Held::Shared(block) => block.shape.copy(),
+            Held::Shared(block) => Shape::of(block.shape.lengths()),
         }
     }
 
@@ -243,7 +245,7 @@ impl Noun {
     {
         match &self.held {
             Held::Number(_) | Held::Character(_) => &[],
-            Held::Shared(block) => block.shape.axes(),
+            Held::Shared(block) => block.shape.lengths(),
         }
     }
 

@@ -33,6 +33,19 @@ impl Shape {
         }
     }
 
+    // The shape of axis lengths.
+    pub(crate) fn of(axes: &[usize]) -> Shape
+        requires { length axes.now ≤ 32 }
+        ensures { result ≡ axes.now }
+    {
+        let mut lengths = [0; 32];
+        lengths[..axes.len()].copy_from_slice(axes);
+        Shape {
+            lengths,
+            count: axes.len(),
+        }
+    }
+
     pub fn axes(&self) -> &[usize]
         ensures value { result.now ≡ self.now }
         ensures rank { length self.now ≤ 32 }

@@ -1,4 +1,5 @@
-use Rattle.std.proofs.Common.{arith, rules, ◌≡◌, ◌∙◌, ◌==◌, ap, true, false, List, ℕ, length}
+use Rattle.std.proofs.Common.{arith, rules, ◌≡◌, ◌∙◌, ◌==◌, ap, sym, true, false, List, ℕ, length}
+use Rattle.j_definitions.specs.Array.{product}
 use Rattle.j_noun.proofs.Rules.{kept-IsOfKind}
 use Rattle.j_noun.specs.Held.{IsInline, array_kept}
 use Rattle.j_noun.proofs.noun.Noun.made.Goals as goal
@@ -12,11 +13,11 @@ not_inline c h = elim c.if-is_empty.branch [
 ]
 
 pub invariant_of-result : goal.invariant_of-result
-invariant_of-result c = rw c.in-Ok.ensures.ok record {
+invariant_of-result c = let same : c.in_ok-shape.shape ≡ c.args.shape = c.in_ok-shape.ensures in rw c.in-Ok.ensures.ok record {
   noun = record {
-    as_many = c.requires.as_many;
+    as_many = c.requires.as_many ∙ ap product (sym same);
     of_kind = kept-IsOfKind c.args.atoms;
     within = record { rank = search rules; axes = search rules; light = search rules; shallow = search rules };
   };
-  stored = record { bits = c.requires.bits; not_inline = not_inline c; weighed = search rules; levelled = search rules };
+  stored = record { bits = c.requires.bits; not_inline = λ h. not_inline c (sym same ∙ h.0, h.1); weighed = search rules; levelled = search rules };
 }
