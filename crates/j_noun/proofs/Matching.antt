@@ -1,8 +1,7 @@
 -- Lemmas on matching.
-use Rattle.std.proofs.Common.{◌≡◌, ◌≤◌, refl, ℕ, ℤ, ◌+◌, ◌==◌, ◌&&◌, false, sym, ◌∙◌, List, [], ◌∷◌, length, map, pos, negsuc, Bool, true, ap, arith}
+use Rattle.std.proofs.Common.{◌≡◌, refl, ℕ, ℤ, ◌==◌, ◌&&◌, ◌∙◌, List, length, map, pos, negsuc, true, ap}
 use Rattle.std.specs.Ordering.{int_eq}
 use Rattle.std.specs.Cmp.Lexicographic.{pointwise}
-use Rattle.std.specs.Bool.{Decides}
 use Rattle.std.proofs.lemmas.Bool.Decides.{Decides-int_eq, Decides-eqb, same_from_decides}
 use Rattle.std.proofs.lemmas.Cmp.{int_eq_equiv}
 use Rattle.j_definitions.specs.Array.{Array, Atom, number, byte, boxed, atom_match, arrays_match}

@@ -1,5 +1,5 @@
 -- Lemmas that the goals of several functions use.
-use Rattle.std.proofs.Common.{◌≡◌, ◌≤◌, refl, sym, ap, ◌∙◌, Result, Ok, Err, IfOk, IfErr, ℕ, ◌+◌, List, [], ◌∷◌, length, map, pos, arith}
+use Rattle.std.proofs.Common.{◌≡◌, ◌≤◌, refl, sym, ap, ◌∙◌, Result, Ok, Err, IfOk, IfErr, ℕ, List, length, map, pos, arith}
 use Rattle.std.specs.List.{sum_by, All}
 use Rattle.std.proofs.lemmas.List.Elements.{All-map}
 use Rattle.j_definitions.specs.Array.{Array, Atom, number, byte, boxed, atom_weight, greatest_level, IsOfKind}
@@ -9,7 +9,6 @@ use Rattle.std.proofs.lemmas.List.{length-map}
 use Rattle.j_noun.specs.Held.{atoms_kept, kind_kept}
 use Rattle.j_definitions.specs.Array.{IsNoun, IsWithin}
 use Rattle.j_definitions.specs.Limits.{limited}
-use Rattle.j_definitions.specs.declared.Fault.{Fault}
 use Rattle.j_definitions.specs.declared.Fault.TheVariants.{Limit}
 use Rattle.j_definitions.proofs.Limits.{limited-Ok, limited-Err, noun_few}
 use Rattle.j_noun.specs.declared.refusal.Refusal.{Refusal}

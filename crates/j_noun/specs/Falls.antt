@@ -1,5 +1,5 @@
 -- The nouns in the boxes of a noun have a smaller box level.
-use Rattle.std.specs.Prelude.{◌≡◌, ℕ, ◌+◌, ◌≤◌, max, List, [], ◌∷◌, map, refl}
+use Rattle.std.specs.Prelude.{◌+◌, ◌≤◌, max, List, [], ◌∷◌, map}
 use Rattle.std.proofs.Common.{arith}
 use denote.Param.Weighed.{most}
 use Rattle.j_definitions.specs.Array.{Array, level, greatest_level, boxed}

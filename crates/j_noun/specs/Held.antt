@@ -1,5 +1,5 @@
 -- The noun that the code keeps.
-use Rattle.std.specs.Prelude.{◌≡◌, ◌≢◌, ℕ, ℤ, ◌≤◌, ◌<◌, pos, List, [], ◌∷◌, map}
+use Rattle.std.specs.Prelude.{◌≡◌, ◌≢◌, ℕ, ◌≤◌, ◌<◌, pos, List, [], ◌∷◌, map}
 use Rattle.std.specs.List.{All, sum_by}
 use Rattle.j_definitions.specs.Array.{Array, Atom, number, byte, boxed, weight, level, atom_weight, greatest_level, IsNoun}
 use Rattle.j_definitions.specs.declared.Kind.{Kind}

@@ -1,5 +1,5 @@
 -- The atoms that a view shows.
-use Rattle.std.specs.Prelude.{◌≡◌, ℕ, ℤ, Bool, ◌<◌, pos, List, [], ◌∷◌, map}
+use Rattle.std.specs.Prelude.{ℕ, ℤ, Bool, ◌<◌, pos, List, map}
 use Rattle.std.specs.List.{All}
 use Rattle.std.specs.Ordering.{int_eq}
 use Rattle.j_definitions.specs.Array.{Atom, number, byte, boxed}

@@ -1,8 +1,7 @@
-use Rattle.std.proofs.Common.{rules, arith, ◌≡◌, ◌<◌, ◌≤◌, ◌&&◌, sym, ap, ◌∙◌, length, refl, subst, map}
-use Rattle.std.specs.Cmp.Lexicographic.{pointwise}
-use Rattle.j_definitions.specs.Array.{level, greatest_level, boxed, arrays_match, atom_match}
+use Rattle.std.proofs.Common.{arith, sym, ◌∙◌}
+use Rattle.j_definitions.specs.Array.{arrays_match}
 use Rattle.j_definitions.proofs.Laws.{level_falls, pointwise_stops, pointwise_ended}
-use Rattle.j_noun.proofs.Matching.{boxes_boxes, boxes_arrays}
+use Rattle.j_noun.proofs.Matching.{boxes_arrays}
 use Rattle.j_noun.proofs.noun.Noun.+matches.Goals as goal
 
 pub matches-requires : goal.matches-requires

@@ -1,4 +1,4 @@
-use Rattle.std.proofs.Common.{arith, rules, ◌≡◌, ◌∙◌, ◌==◌, ap, sym, true, false, List, ℕ, length}
+use Rattle.std.proofs.Common.{rules, ◌≡◌, ◌∙◌, ◌==◌, ap, sym, true, false, List, ℕ, length}
 use Rattle.j_definitions.specs.Array.{product}
 use Rattle.j_noun.proofs.Rules.{kept-IsOfKind}
 use Rattle.j_noun.specs.Held.{IsInline, array_kept}
