@@ -1,10 +1,11 @@
 -- Bytes as loops go over them.
-use Rattle.std.proofs.Common.{◌≡◌, ℕ, suc, ◌+◌, ◌-◌, ◌<◌, ◌≤◌, ◌==◌, ◌||◌, ◌&&◌, Bool, true, false, cond, List, [], ◌∷◌, ◌++◌, length, take, drop, get_or, Option, Some, None, refl, sym, ap, ◌∙◌, subst, ⊎_elim, arith}
+use Rattle.std.proofs.Common.{◌≡◌, ℕ, zero, suc, ◌+◌, ◌-◌, ◌<◌, ◌≤◌, ◌==◌, ◌||◌, ◌&&◌, Bool, true, false, cond, List, [], ◌∷◌, ◌++◌, length, take, drop, get_or, Option, Some, None, refl, sym, ap, ◌∙◌, subst, ⊎_elim, arith}
 use Rattle.std.specs.List.{list_any, All}
 use Rattle.std.specs.Str.{bytes_eq}
-use Rattle.std.proofs.lemmas.Bool.{ne_eqb, cases_lt, true≢false}
+use Rattle.std.proofs.lemmas.Bool.{ne_eqb, eqb-true, cases_lt, true≢false}
 use Rattle.std.proofs.lemmas.List.{take-append-drop, drop_more, drop_all, get_or-take, get_or-drop, length-take-le, length-drop, drop-drop, take_rest, get_or_default}
 use Rattle.std.proofs.lemmas.List.Splits.{slice_split_at, slice_split_none}
+use Rattle.memchr.specs.Find.{IsFirstByte, is_byte}
 use Rattle.j_words.specs.Forms.{further, text_bytes}
 use Rattle.j_words.specs.Names.{begins_low, ends_low, double_at, low_here, last_low}
 use Rattle.j_words.specs.Vocabulary.{is_among}
@@ -22,7 +23,7 @@ pub other_byte : (b : ℕ) (bs : List ℕ) → (b == 39) ≡ false → text_byte
 other_byte b [] e = ap (λ t. cond t (Some 1) None) e
 other_byte b (c ∷ bs) e = ap (λ t. cond t (cond (c == 39) (further 2 (text_bytes bs)) (Some 1)) (further 1 (text_bytes (c ∷ bs)))) e
 
-pub text_other : (bs : List ℕ) (i : ℕ) → i < length bs → (get_or bs i 0 ≡ 39 → ⊥) → further i (text_bytes (drop i bs)) ≡ further (i + 1) (text_bytes (drop (i + 1) bs))
+text_other : (bs : List ℕ) (i : ℕ) → i < length bs → (get_or bs i 0 ≡ 39 → ⊥) → further i (text_bytes (drop i bs)) ≡ further (i + 1) (text_bytes (drop (i + 1) bs))
 text_other bs i l h =
     ap (λ xs. further i (text_bytes xs)) (drop_more bs i 0 l) ∙ ap (further i) (other_byte (get_or bs i 0) (drop (i + 1) bs) (ne_eqb (get_or bs i 0) 39 h)) ∙ further_more i 1 (text_bytes (drop (i + 1) bs))
 
@@ -31,21 +32,45 @@ two_more bs i l =
     let e : i + 1 + 1 ≡ i + 2 = omega arith in
     drop_more bs i 0 (omega arith) ∙ ap (λ xs. get_or bs i 0 ∷ xs) (drop_more bs (i + 1) 0 l ∙ ap (λ n. get_or bs (i + 1) 0 ∷ drop n bs) e)
 
-pub text_doubled : (bs : List ℕ) (i : ℕ) → i + 1 < length bs → get_or bs i 0 ≡ 39 → get_or bs (i + 1) 0 ≡ 39 → further i (text_bytes (drop i bs)) ≡ further (i + 2) (text_bytes (drop (i + 2) bs))
+text_doubled : (bs : List ℕ) (i : ℕ) → i + 1 < length bs → get_or bs i 0 ≡ 39 → get_or bs (i + 1) 0 ≡ 39 → further i (text_bytes (drop i bs)) ≡ further (i + 2) (text_bytes (drop (i + 2) bs))
 text_doubled bs i l h g =
     ap (λ xs. further i (text_bytes xs)) (two_more bs i l ∙ ap (λ b. b ∷ get_or bs (i + 1) 0 ∷ drop (i + 2) bs) h ∙ ap (λ c. 39 ∷ c ∷ drop (i + 2) bs) g) ∙ further_more i 2 (text_bytes (drop (i + 2) bs))
 
-pub text_closed : (bs : List ℕ) (i : ℕ) → i + 1 < length bs → get_or bs i 0 ≡ 39 → (get_or bs (i + 1) 0 ≡ 39 → ⊥) → further i (text_bytes (drop i bs)) ≡ Some (i + 1)
+text_closed : (bs : List ℕ) (i : ℕ) → i + 1 < length bs → get_or bs i 0 ≡ 39 → (get_or bs (i + 1) 0 ≡ 39 → ⊥) → further i (text_bytes (drop i bs)) ≡ Some (i + 1)
 text_closed bs i l h g =
     ap (λ xs. further i (text_bytes xs)) (two_more bs i l ∙ ap (λ b. b ∷ get_or bs (i + 1) 0 ∷ drop (i + 2) bs) h)
     ∙ ap (λ t. further i (cond t (further 2 (text_bytes (drop (i + 2) bs))) (Some 1))) (ne_eqb (get_or bs (i + 1) 0) 39 g)
 
-pub text_ended : (bs : List ℕ) (i : ℕ) → i < length bs → length bs ≤ i + 1 → get_or bs i 0 ≡ 39 → further i (text_bytes (drop i bs)) ≡ Some (i + 1)
+text_ended : (bs : List ℕ) (i : ℕ) → i < length bs → length bs ≤ i + 1 → get_or bs i 0 ≡ 39 → further i (text_bytes (drop i bs)) ≡ Some (i + 1)
 text_ended bs i l m h =
     ap (λ xs. further i (text_bytes xs)) (drop_more bs i 0 l ∙ ap (λ xs. get_or bs i 0 ∷ xs) (drop_all (i + 1) bs m) ∙ ap (λ b. b ∷ []) h)
 
-pub text_open : (bs : List ℕ) (i : ℕ) → length bs ≤ i → further i (text_bytes (drop i bs)) ≡ None
-text_open bs i l = ap (λ xs. further i (text_bytes xs)) (drop_all i bs l)
+-- no quote among the n bytes from i on
+clear_run : (bs : List ℕ) (i n : ℕ) → i + n ≤ length bs → ((k : ℕ) → 0 ≤ k → k < n → (get_or (drop i bs) k 0 == 39) ≡ true → ⊥) → further i (text_bytes (drop i bs)) ≡ further (i + n) (text_bytes (drop (i + n) bs))
+clear_run bs i zero l none = ap (λ m. further m (text_bytes (drop m bs))) (omega arith)
+clear_run bs i (suc n) l none =
+    clear_run bs i n (omega arith) (λ k a b. none k a (omega arith))
+    ∙ text_other bs (i + n) (omega arith) (λ e. none n (omega arith) (omega arith) (ap (λ b. b == 39) (get_or-drop i bs n 0 ∙ e)))
+    ∙ ap (λ m. further m (text_bytes (drop m bs))) (omega arith)
+
+-- the first quote from i on, n bytes behind it
+pub first_doubled : (bs : List ℕ) (i n : ℕ) → IsFirstByte (is_byte 39) (drop i bs) (Some n) → i + n + 1 < length bs → get_or bs (i + n + 1) 0 ≡ 39 → further i (text_bytes (drop i bs)) ≡ further (i + n + 1 + 1) (text_bytes (drop (i + n + 1 + 1) bs))
+first_doubled bs i n found l g =
+    clear_run bs i n (omega arith) found.0.before ∙ text_doubled bs (i + n) l (sym (get_or-drop i bs n 0) ∙ eqb-true _ 39 found.1) g
+    ∙ ap (λ m. further m (text_bytes (drop m bs))) (omega arith)
+
+pub first_closed : (bs : List ℕ) (i n : ℕ) → IsFirstByte (is_byte 39) (drop i bs) (Some n) → i + n + 1 < length bs → (get_or bs (i + n + 1) 0 ≡ 39 → ⊥) → further i (text_bytes (drop i bs)) ≡ Some (i + n + 1)
+first_closed bs i n found l g =
+    clear_run bs i n (omega arith) found.0.before ∙ text_closed bs (i + n) l (sym (get_or-drop i bs n 0) ∙ eqb-true _ 39 found.1) g
+
+pub first_ended : (bs : List ℕ) (i n : ℕ) → IsFirstByte (is_byte 39) (drop i bs) (Some n) → i + n + 1 ≡ length bs → further i (text_bytes (drop i bs)) ≡ Some (i + n + 1)
+first_ended bs i n found l =
+    clear_run bs i n (omega arith) found.0.before ∙ text_ended bs (i + n) (omega arith) (omega arith) (sym (get_or-drop i bs n 0) ∙ eqb-true _ 39 found.1)
+
+pub text_open : (bs : List ℕ) (i : ℕ) → i ≤ length bs → IsFirstByte (is_byte 39) (drop i bs) None → further i (text_bytes (drop i bs)) ≡ None
+text_open bs i l none =
+    clear_run bs i (length bs - i) (omega arith) (λ k a b. none k a (omega (arith, length-drop i bs)))
+    ∙ ap (λ xs. further (i + (length bs - i)) (text_bytes xs)) (drop_all (i + (length bs - i)) bs (omega arith))
 
 -- the first `__`
 pub low_first : (bs : List ℕ) (n : ℕ) → begins_low (drop n bs) ≡ true → n < length bs

@@ -4,6 +4,7 @@ ghost use Rattle.j_words.specs.Forms.{text_bytes, is_comment, text_word, part, l
 
 use crate::WordFault;
 use crate::bytes::{Set, is_graphic, is_in, run};
+use memchr::memchr;
 
 /// The forms of words. A listed word has to be one of the vocabulary.
 #[derive(Clone, Copy)]
@@ -22,20 +23,18 @@ pub(crate) struct Found {
 }
 
 /// How many bytes a text takes after its opening quote.
-#[tactic(auto, using(crate::proofs::Scans::text_other, crate::proofs::Scans::text_doubled, crate::proofs::Scans::text_closed, crate::proofs::Scans::text_ended, crate::proofs::Scans::text_open, crate::proofs::Scans::further_none))]
+#[tactic(auto, using(crate::proofs::Scans::further_none))]
 fn text_bytes(bytes: &[u8]) -> Option<usize>
     ensures same { result ≡ text_bytes bytes.now }
     ensures within { IfSome result (λ n. n ≤ length bytes.now) }
 {
     let mut place: usize = 0;
-    while place < bytes.len() {
-        if bytes[place] != b'\'' {
-            place += 1;
-        } else if place + 1 < bytes.len() && bytes[place + 1] == b'\'' {
-            place += 2;
-        } else {
-            return Some(place + 1);
+    while let Some(before) = memchr(b'\'', &bytes[place..]) {
+        let after = place + before + 1;
+        if after == bytes.len() || bytes[after] != b'\'' {
+            return Some(after);
         }
+        place = after + 1;
     }
     None
 }
