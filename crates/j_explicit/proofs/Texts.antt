@@ -1,7 +1,8 @@
 -- Texts are halved from the left, and their nouns.
-use Rattle.std.proofs.Common.{◌≡◌, ◌≢◌, ℕ, ◌+◌, ◌==◌, ◌<◌, ◌≤◌, Bool, true, false, cond, List, [], ◌∷◌, ◌++◌, length, map, drop, get_or, refl, sym, ap, ◌∙◌, arith}
-use Rattle.std.proofs.lemmas.List.{append_assoc, append-nil, drop_more, drop_all, drop-drop}
-use Rattle.std.proofs.lemmas.Bool.{ne_eqb, eqb-true}
+use Rattle.std.proofs.Common.{◌≡◌, ◌≢◌, ℕ, zero, suc, ◌+◌, ◌==◌, ◌<◌, ◌≤◌, Bool, true, false, cond, List, [], ◌∷◌, ◌++◌, length, map, take, drop, get_or, Some, None, refl, sym, ap, ◌∙◌, arith}
+use Rattle.std.proofs.lemmas.List.{append_assoc, append-nil, drop_more, drop_all, drop-drop, take_more, take_all}
+use Rattle.std.proofs.lemmas.Bool.{eqb-true, false_from_ne_true}
+use Rattle.memchr.specs.Find.{IsFirstByte, is_byte}
 use Rattle.j_definitions.specs.Array.{Array, byte}
 use Rattle.j_definitions.specs.declared.Kind.TheVariants.{Character}
 use Rattle.j_words.specs.Forms.{doubled}
@@ -15,25 +16,30 @@ quoted : (bs : List ℕ) → halved (39 ∷ bs) ≡ 39 ∷ halved (drop 1 bs)
 quoted [] = refl
 quoted (c ∷ bs) = refl
 
-pub none_left : (xs text : List ℕ) (i : ℕ) → length text ≤ i → xs ++ halved (drop i text) ≡ xs
-none_left xs text i l = ap (λ bs. xs ++ halved bs) (drop_all i text l) ∙ append-nil xs
+-- no quote among the first n bytes
+run_kept : (bs : List ℕ) (n : ℕ) → n ≤ length bs → ((k : ℕ) → 0 ≤ k → k < n → (get_or bs k 0 == 39) ≡ true → ⊥) → halved bs ≡ take n bs ++ halved (drop n bs)
+run_kept bs zero l none = refl
+run_kept [] (suc n) l none = absurd (omega arith)
+run_kept (b ∷ bs) (suc n) l none =
+    other b bs (false_from_ne_true (b == 39) (none 0 (omega arith) (omega arith)))
+    ∙ ap (λ t. b ∷ t) (run_kept bs n (omega arith) (λ k a m. none (suc k) (omega arith) (omega arith)))
 
-pub other_kept : (xs text : List ℕ) (i : ℕ) (b : ℕ) → i < length text → b ≡ get_or text i 0 → (b ≡ 39 → ⊥) → xs ++ halved (drop i text) ≡ (xs ++ b ∷ []) ++ halved (drop (i + 1) text)
-other_kept xs text i b l e h =
-    ap (λ bs. xs ++ halved bs) (drop_more text i 0 l ∙ ap (λ c. c ∷ drop (i + 1) text) (sym e))
-    ∙ ap (λ bs. xs ++ bs) (other b (drop (i + 1) text) (ne_eqb b 39 h))
-    ∙ sym (append_assoc xs (b ∷ []) (halved (drop (i + 1) text)))
+pub none_left : (bs : List ℕ) → IsFirstByte (is_byte 39) bs None → halved bs ≡ bs
+none_left bs none =
+    run_kept bs (length bs) (omega arith) none
+    ∙ ap (λ t. take (length bs) bs ++ halved t) (drop_all (length bs) bs (omega arith))
+    ∙ append-nil (take (length bs) bs) ∙ take_all (length bs) bs (omega arith)
 
-drop_one : (i : ℕ) (text : List ℕ) → drop 1 (drop (i + 1) text) ≡ drop (i + 2) text
-drop_one i text = drop-drop 1 (i + 1) text ∙ ap (λ (n : ℕ). drop n text) (omega arith)
-
-pub quote_halved : (xs text : List ℕ) (i : ℕ) (b : ℕ) → i < length text → b ≡ get_or text i 0 → b ≡ 39 → xs ++ halved (drop i text) ≡ (xs ++ b ∷ []) ++ halved (drop (i + 2) text)
-quote_halved xs text i b l e h =
-    ap (λ bs. xs ++ halved bs) (drop_more text i 0 l ∙ ap (λ c. c ∷ drop (i + 1) text) (sym e ∙ h))
-    ∙ ap (λ bs. xs ++ bs) (quoted (drop (i + 1) text))
-    ∙ ap (λ bs. xs ++ 39 ∷ halved bs) (drop_one i text)
-    ∙ ap (λ c. xs ++ c ∷ halved (drop (i + 2) text)) (sym h)
-    ∙ sym (append_assoc xs (b ∷ []) (halved (drop (i + 2) text)))
+-- the first quote is kept, and the byte behind it is not
+pub quote_halved : (bs : List ℕ) (n : ℕ) → IsFirstByte (is_byte 39) bs (Some n) → halved bs ≡ take (n + 1) bs ++ halved (drop (n + 2) bs)
+quote_halved bs n found =
+    let is : get_or bs n 0 ≡ 39 = eqb-true _ 39 found.1 in
+    let after : drop 1 (drop (n + 1) bs) ≡ drop (n + 2) bs = drop-drop 1 (n + 1) bs ∙ ap (λ (m : ℕ). drop m bs) (omega arith) in
+    run_kept bs n (omega (arith, found.0.high)) found.0.before
+    ∙ ap (λ t. take n bs ++ halved t) (drop_more bs n 0 found.0.high ∙ ap (λ b. b ∷ drop (n + 1) bs) is)
+    ∙ ap (λ t. take n bs ++ t) (quoted (drop (n + 1) bs) ∙ ap (λ t. 39 ∷ halved t) after)
+    ∙ sym (append_assoc (take n bs) (39 ∷ []) (halved (drop (n + 2) bs)))
+    ∙ ap (λ t. t ++ halved (drop (n + 2) bs)) (ap (λ b. take n bs ++ b ∷ []) (sym is) ∙ sym (take_more bs n 0 found.0.high))
 
 -- a text is read as it is written
 pub halved_doubled : (t : List ℕ) → halved (doubled t) ≡ t

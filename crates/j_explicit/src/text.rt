@@ -5,6 +5,7 @@ ghost use Rattle.j_definitions.specs.Limits.{limited};
 ghost use Rattle.j_explicit.specs.Texts.{between_quotes, halved, characters, text};
 
 use j_noun::{Atoms, NoMemory, Noun, Pool, Refusal, Shape};
+use memchr::memchr;
 
 /// What stands between the quotes of a text word.
 fn between_quotes(word: &[u8]) -> &[u8]
@@ -17,18 +18,20 @@ fn between_quotes(word: &[u8]) -> &[u8]
 }
 
 /// The bytes of a text, of each doubled quote one.
-#[tactic(auto, using(crate::proofs::Texts::quote_halved, crate::proofs::Texts::other_kept, crate::proofs::Texts::none_left))]
 fn halved(pool: &mut Pool, text: &[u8]) -> Result<Vec<u8>, NoMemory>
     ensures { IfOk result (λ v. v.items ≡ halved text.now) }
 {
     let mut bytes = pool.bytes(text.len())?;
     let mut place: usize = 0;
-    while place < text.len() {
-        let byte = text[place];
-        if bytes.push(byte).is_err() {
+    while let Some(before) = memchr(b'\'', &text[place..]) {
+        let after = place + before + 1;
+        if bytes.extend_from_slice(&text[place..after]).is_err() {
             return Err(NoMemory);
         }
-        place += if byte == b'\'' { 2 } else { 1 };
+        place = (after + 1).min(text.len());
+    }
+    if bytes.extend_from_slice(&text[place..]).is_err() {
+        return Err(NoMemory);
     }
     Ok(bytes)
 }
