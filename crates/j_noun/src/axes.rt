@@ -1,5 +1,5 @@
 // The axis lengths that a noun keeps.
-ghost use Rattle.std.specs.Prelude.{◌≡◌, ◌≤◌, length, IfOk};
+ghost use Rattle.std.specs.Prelude.{◌≡◌, ◌≤◌, length, IfOk, IsOk};
 ghost use Rattle.j_noun.specs.Axes.{lengths_kept, IsShort};
 
 use crate::shape::Shape;
@@ -34,9 +34,10 @@ impl Model for Axes {
 }
 
 impl Axes {
-    /// The lengths of a shape.
+    /// The lengths of a shape. Few ask for no memory.
     pub(crate) fn of(alloc: Global, shape: &Shape) -> Result<Axes, NoMemory>
-        ensures { IfOk result (λ a. a ≡ shape.now) }
+        ensures ok { IfOk result (λ a. a ≡ shape.now) }
+        ensures few { length shape.now ≤ 4 → IsOk result }
     {
         let axes = shape.axes();
         if axes.len() > FEW {
@@ -65,7 +66,7 @@ impl Axes {
         }
     }
 
-    pub(crate) fn lengths(&self) -> &[usize]
+    pub(crate) fn axes(&self) -> &[usize]
         ensures value { result.now ≡ self.now }
         ensures rank { length self.now ≤ 32 }
     {

@@ -234,7 +234,7 @@ impl Noun {
     {
         match &self.held {
             Held::Number(_) | Held::Character(_) => Shape::new(),
-            Held::Shared(block) => Shape::of(block.shape.lengths()),
+            Held::Shared(block) => Shape::of(block.shape.axes()),
         }
     }
 
@@ -245,7 +245,7 @@ impl Noun {
     {
         match &self.held {
             Held::Number(_) | Held::Character(_) => &[],
-            Held::Shared(block) => block.shape.lengths(),
+            Held::Shared(block) => block.shape.axes(),
         }
     }
 

@@ -13,7 +13,7 @@ not_inline c h = elim c.if-is_empty.branch [
 ]
 
 pub invariant_of-result : goal.invariant_of-result
-invariant_of-result c = let same : c.in_ok-shape.shape ≡ c.args.shape = c.in_ok-shape.ensures in rw c.in-Ok.ensures.ok record {
+invariant_of-result c = let same : c.in_ok-shape.shape ≡ c.args.shape = c.in_ok-shape.ensures.ok in rw c.in-Ok.ensures.ok record {
   noun = record {
     as_many = c.requires.as_many ∙ ap product (sym same);
     of_kind = kept-IsOfKind c.args.atoms;
