@@ -1,13 +1,13 @@
 // The names of a run, kept as lists of rows that nobody else sees.
-ghost use Rattle.std.specs.Prelude.{◌≡◌, ◌≢◌, true, false, ◌↔◌, [], Some, None, Ok, Err, IfSome, IfOk, IfErr, IsOk, IsTrue, MatchResult, OnOk, OnErr, option_map};
+ghost use Rattle.std.specs.Prelude.{◌≡◌, ◌≢◌, ℕ, true, false, ◌↔◌, List, [], ◌∷◌, Option, Some, None, Ok, Err, IfSome, IfOk, IfErr, IsOk, IsTrue, MatchResult, OnOk, OnErr, option_map, unwrap_or};
 ghost use Rattle.std.specs.Option.{is_some};
 ghost use Rattle.std.specs.FinMap as map;
 ghost use Rattle.std.specs.List.{position_from};
 ghost use Rattle.j_entity.specs.View.{entity_of};
-ghost use Rattle.j_entity.specs.Tree.{primitive, a_verb};
+ghost use Rattle.j_entity.specs.Tree.{EntityTree, primitive, a_verb};
 ghost use Rattle.j_leaves.specs.declared.name.Place.TheVariants.{Here};
 ghost use Rattle.j_names.specs.declared.target.Target.{Target};
-ghost use Rattle.j_names.specs.Names.{begun, z_locale, local, through, simple, locale_held, locale_at, look, local_target, simple_target, target_of, held_at, put, assign, entered, left, switched, is_local_at, IsRefused};
+ghost use Rattle.j_names.specs.Names.{Scopes, Locals, begun, z_locale, local, through, simple, locale_held, locale_at, look, local_target, simple_target, target_of, held_at, put, assign, entered, left, without_first, switched, is_local_at, IsRefused};
 ghost use Rattle.j_names.specs.Kept.{has_key, has_name, kept, kept_locals};
 
 use crate::locales::locale_boxed;
@@ -403,19 +403,28 @@ impl Names {
     }
 
     /// `=.`: a local of the running definition, or at the top level a name of the current locale. A locative is assigned in its locale.
+    #[tactic(auto, using(crate::proofs::Assigned::same_current, crate::proofs::Assigned::same_levels, crate::proofs::Assigned::same_rows, crate::proofs::Assigned::same_names, crate::proofs::Assigned::same_locals))]
     pub fn set_local(&mut self, name: Name, e: Entity) -> Result<(), Refusal>
         ensures ok { OnOk result (assign true self.old name (entity_of e) ≡ Ok self.new) }
         ensures err { IfErr result (λ r. IsRefused (assign true self.old name (entity_of e)) r) }
         ensures unchanged { OnErr result (self.new ≡ self.old) }
+        ensures others { (l n : List ℕ) → n ≢ name.base → map.get self.new.rows (l, n) ≡ map.get self.old.rows (l, n) }
+        ensures other_locals { (n : List ℕ) → n ≢ name.base → local self.new n ≡ local self.old n }
+        ensures other_levels { without_first self.new.locals ≡ without_first self.old.locals }
+        ensures locale { self.new.current ≡ self.old.current }
     {
         self.assign(name, e, true)
     }
 
     /// `=:`: a name of the current locale, `domain error` for a local. A locative is assigned in its locale.
+    #[tactic(auto, using(crate::proofs::Assigned::same_current, crate::proofs::Assigned::same_levels, crate::proofs::Assigned::same_rows, crate::proofs::Assigned::same_names, crate::proofs::Assigned::same_locals))]
     pub fn set_global(&mut self, name: Name, e: Entity) -> Result<(), Refusal>
         ensures ok { OnOk result (assign false self.old name (entity_of e) ≡ Ok self.new) }
         ensures err { IfErr result (λ r. IsRefused (assign false self.old name (entity_of e)) r) }
         ensures unchanged { OnErr result (self.new ≡ self.old) }
+        ensures others { (l n : List ℕ) → n ≢ name.base → map.get self.new.rows (l, n) ≡ map.get self.old.rows (l, n) }
+        ensures locals { self.new.locals ≡ self.old.locals }
+        ensures locale { self.new.current ≡ self.old.current }
     {
         self.assign(name, e, false)
     }
@@ -424,6 +433,10 @@ impl Names {
     pub fn enter(&mut self) -> Result<(), NoMemory>
         ensures ok { OnOk result (self.new ≡ entered self.old) }
         ensures unchanged { OnErr result (self.new ≡ self.old) }
+        ensures others { OnOk result (without_first self.new.locals ≡ self.old.locals) }
+        ensures back { OnOk result (left self.new ≡ self.old) }
+        ensures rows { self.new.rows ≡ self.old.rows }
+        ensures locale { self.new.current ≡ self.old.current }
     {
         let locals = mem::replace(&mut self.locals, Vec::new(self.alloc));
         match self.outer.push(locals) {
@@ -437,7 +450,12 @@ impl Names {
 
     /// The innermost definition ends, and its locals go. At the top level nothing happens.
     pub fn leave(&mut self)
-        ensures { self.new ≡ left self.old }
+        ensures now { self.new ≡ left self.old }
+        ensures others { self.new.locals ≡ without_first self.old.locals }
+        ensures back { (before : Scopes) (l : Locals) → self.old.locals ≡ l ∷ before.locals → (n : List ℕ) → local self.new n ≡ local before n }
+        ensures at_top { self.old.locals ≡ [] → self.new ≡ self.old }
+        ensures rows { self.new.rows ≡ self.old.rows }
+        ensures locale { self.new.current ≡ self.old.current }
     {
         if let Some(locals) = self.outer.pop() {
             self.locals = locals;
