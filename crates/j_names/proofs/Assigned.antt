@@ -1,5 +1,5 @@
 -- What an assignment gives, and what it leaves as it was.
-use Rattle.std.proofs.Common.{◌≡◌, ◌≢◌, ℕ, Bool, true, false, List, [], ◌∷◌, Option, Some, None, Result, Ok, Err, OnOk, OnErr, refl, sym, ap, ◌∙◌, subst, arith}
+use Rattle.std.proofs.Common.{◌≡◌, ◌≢◌, ℕ, Bool, false, List, [], ◌∷◌, Option, Some, None, Result, Ok, Err, OnOk, OnErr, refl, sym, ap, ◌∙◌, subst, arith}
 use Rattle.std.specs.Ordering.{nat_cmp}
 use Rattle.std.specs.Cmp.Lexicographic.{slice_cmp}
 use Rattle.std.specs.FinMap.{get}
@@ -10,7 +10,7 @@ use Rattle.j_names.specs.Names.{Key, key_cmp, Scopes, Locals, local, local_in, a
 use Rattle.j_names.specs.declared.target.Target.{Target}
 use Rattle.j_names.specs.declared.target.Target.TheVariants as target
 use Rattle.j_names.proofs.Keys.{key_total, key_exact, text_total, text_exact}
-use Rattle.j_names.proofs.Laws.{given, others, last}
+use Rattle.j_names.proofs.Laws.{others}
 
 same_Ok : {A : Type 0} (x y : A) → (let r : Result A Fault = Ok x in r) ≡ Ok y → x ≡ y
 same_Ok x y e = grind arith

@@ -1,10 +1,10 @@
 // The names of a run, kept as lists of rows that nobody else sees.
-ghost use Rattle.std.specs.Prelude.{◌≡◌, ◌≢◌, ℕ, true, false, ◌↔◌, List, [], ◌∷◌, Option, Some, None, Ok, Err, IfSome, IfOk, IfErr, IsOk, IsTrue, MatchResult, OnOk, OnErr, option_map, unwrap_or};
+ghost use Rattle.std.specs.Prelude.{◌≡◌, ◌≢◌, ℕ, true, false, ◌↔◌, List, [], ◌∷◌, Some, None, Ok, Err, IfSome, IfOk, IfErr, IsOk, IsTrue, MatchResult, OnOk, OnErr, option_map};
 ghost use Rattle.std.specs.Option.{is_some};
 ghost use Rattle.std.specs.FinMap as map;
 ghost use Rattle.std.specs.List.{position_from};
 ghost use Rattle.j_entity.specs.View.{entity_of};
-ghost use Rattle.j_entity.specs.Tree.{EntityTree, primitive, a_verb};
+ghost use Rattle.j_entity.specs.Tree.{primitive, a_verb};
 ghost use Rattle.j_leaves.specs.declared.name.Place.TheVariants.{Here};
 ghost use Rattle.j_names.specs.declared.target.Target.{Target};
 ghost use Rattle.j_names.specs.Names.{Scopes, Locals, begun, z_locale, local, through, simple, locale_held, locale_at, look, local_target, simple_target, target_of, held_at, put, assign, entered, left, without_first, switched, is_local_at, IsRefused};

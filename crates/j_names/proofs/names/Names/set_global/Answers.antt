@@ -1,9 +1,9 @@
 use Rattle.std.proofs.Common.{false, ap}
 use Rattle.std.specs.FinMap as map
 use Rattle.j_entity.specs.View.{entity_of}
-use Rattle.j_names.specs.Names.{Scopes, local}
+use Rattle.j_names.specs.Names.{Scopes}
 use Rattle.j_names.proofs.Levels.{on_ok}
-use Rattle.j_names.proofs.Assigned.{either, on_err, same_rows, same_names}
+use Rattle.j_names.proofs.Assigned.{either, on_err, same_rows}
 use Rattle.j_names.proofs.names.Names.set_global.Goals as goal
 
 pub returns-clause-others : goal.returns-clause-others
