@@ -44,6 +44,8 @@ mod faults;
 #[cfg(test)]
 mod limits;
 #[cfg(test)]
+mod locales;
+#[cfg(test)]
 mod modifiers;
 #[cfg(test)]
 mod outside;

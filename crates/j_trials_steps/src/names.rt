@@ -33,7 +33,7 @@ fn run(
 fn names(rt: HostRuntime) -> Result<(), Fail> {
     let alloc = rt.alloc();
     // Lines, the steps of all, and what the last one shows. A look-up is a step for each cell.
-    let rows: [(&str, u64, &str); 29] = [
+    let rows: [(&str, u64, &str); 28] = [
         ("f =: +", 2, ""),
         ("(a =: 5)", 3, "5\n"),
         ("3 + a =: 5", 3, "8\n"),
@@ -43,7 +43,6 @@ fn names(rt: HostRuntime) -> Result<(), Fail> {
         ("f =: +\nf 1 2 3", 7, "1 2 3\n"),
         // a built-in verb is a name too
         ("echo 1", 3, "1\n"),
-        ("(echo , echo) 1", 6, "1\n1\n"),
         ("f_p_ =: 3 + ]\nf_p_ 4", 6, "7\n"),
         ("f =: -\n1 2 3 f 10", 7, "_9 _8 _7\n"),
         ("f =: ]\nf 1 2 3", 5, "1 2 3\n"),
@@ -119,5 +118,54 @@ fn names_on_pieces(rt: HostRuntime) -> Result<(), Fail> {
             "{lines}"
         );
     }
+    Ok(())
+}
+
+// What was refused changed no name, and a call that failed left the current locale as it was.
+#[test]
+fn names_after_errors(rt: HostRuntime) -> Result<(), Fail> {
+    let alloc = rt.alloc();
+    // Lines, the steps of all, and what the last one shows.
+    let rows: [(&str, u64, &str); 19] = [
+        // rows 5, 8 and 0, and two look-ups
+        ("(echo , echo) 1", 6, "1\n1\n"),
+        ("f_p_ =: %\nf_p_ 'a'\nc =: 5\nc_base_", 8, "5\n"),
+        (
+            "g_q_ =: %\nf_p_ =: g_q_ @: ]\nf_p_ 'a'\nc =: 5\nc_base_",
+            12,
+            "5\n",
+        ),
+        // a list of two and a table without rows have different lengths
+        (
+            "f_p_ =: 1 2 + cocurrent\nf_p_ 'q'\nc =: 5\nc_base_",
+            10,
+            "5\n",
+        ),
+        ("f =: 1 2 + cocurrent\nf 'q'\nc =: 5\nc_q_", 10, "5\n"),
+        ("a =: 1\n'a 1' =: 3 4\na", 5, "1\n"),
+        ("a =: 1\n'a b' =: 2 3 4\na", 5, "1\n"),
+        ("a =: 1\n'a b' =: +\na", 5, "1\n"),
+        ("a =: 1\n'a b__o' =: 2 3\na", 5, "1\n"),
+        ("a =: 1\no =: <'p q'\n'a b__o' =: 2 3\na", 8, "1\n"),
+        ("a =: 1\na__o =: 5\na", 5, "1\n"),
+        ("b =: 1\nb =: a__o\nb", 4, "1\n"),
+        ("cocurrent 3\nc =: 5\nc_base_", 6, "5\n"),
+        ("cocurrent ''\nc =: 5\nc_base_", 6, "5\n"),
+        ("cocurrent 'a b'\nc =: 5\nc_base_", 6, "5\n"),
+        ("cocurrent 'a_'\nc =: 5\nc_base_", 6, "5\n"),
+        ("1 cocurrent 'p'\nc =: 5\nc_base_", 6, "5\n"),
+        ("cocurrent <<'p'\nc =: 5\nc_base_", 8, "5\n"),
+        ("cocurrent ,<'p'\nc =: 5\nc_base_", 8, "5\n"),
+    ];
+    for (lines, steps, shown) in &rows {
+        assert_eq!(rt;
+            run(&rt, alloc, *lines, *steps, *shown)?,
+            (false, *steps, true),
+            "{lines}"
+        );
+    }
+    // what was shown before the budget was spent stays
+    let expected = (true, 5, true);
+    assert_eq!(rt; run(&rt, alloc, "(echo , echo) 1", 5, "1\n")?, expected);
     Ok(())
 }
