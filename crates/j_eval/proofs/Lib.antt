@@ -6,6 +6,7 @@ pub mod Sentences
 pub mod Bound
 pub mod Parts
 pub mod Visits
+pub mod SeveralNames
 pub mod Cells
 pub mod Between
 pub mod Identities

@@ -8,8 +8,8 @@ use Rattle.j_entity.specs.Ranks.{primitive_ranks}
 use Rattle.j_trains.specs.Obverses.{obverse_word}
 use Rattle.j_verbs.specs.ByRank.{Doing, by_ranks}
 use Rattle.j_verbs.specs.State.{◌>>=◌, fail}
-use Rattle.j_verbs.specs.Words.{word}
 use Rattle.j_eval.specs.Operands.{Operand, unformed}
+use Rattle.j_eval.specs.RunVerbs.{spoken}
 use Rattle.j_eval.specs.Trains.{left_of}
 
 -- `u@v` and `u@:v`: u on what v gives. They differ in their ranks.
@@ -28,7 +28,7 @@ over u v (Some x) y = do
 
 -- what a word does, if there is one
 abbrev pub word_does : Option Primitive → Doing
-word_does (Some p) x y = by_ranks (primitive_ranks p) (word p) x y
+word_does (Some p) x y = by_ranks (primitive_ranks p) (spoken p) x y
 word_does None x y = unformed x y
 
 -- the obverse of an operand, which is a word

@@ -1,28 +1,19 @@
 -- The names of a text, and an assignment to several names.
-use Rattle.std.specs.Prelude.{ℕ, negsuc, ◌+◌, ◌==◌, not, cond, Bool, List, [], ◌∷◌, length, filter, Option, Some, None, Result, Ok, Err, option_map}
-use Rattle.std.specs.List.{slice_split}
+use Rattle.std.specs.Prelude.{ℕ, ◌+◌, ◌==◌, cond, Bool, List, [], ◌∷◌, length, Option, Some, None, Result, Ok, Err, option_map}
 use Rattle.std.specs.Option.{option_and_then}
-use Rattle.j_definitions.specs.Array.{Array, Atom, boxed, opened, tally}
-use Rattle.j_definitions.specs.Bytes.{is_blank}
+use Rattle.j_definitions.specs.Array.{Array, opened}
 use Rattle.j_definitions.specs.Cells.{atom_at}
 use Rattle.j_definitions.specs.declared.Fault.{Fault}
 use Rattle.j_definitions.specs.declared.Fault.TheVariants.{Domain, Length}
-use Rattle.j_definitions.specs.declared.Kind.{Kind}
-use Rattle.j_definitions.specs.declared.Kind.TheVariants.{Number, Character, Boxed}
 use Rattle.j_entity.specs.Tree.{EntityTree, a_noun, a_verb, an_adverb, a_conjunction}
 use Rattle.j_leaves.specs.Names.{NameParts, name_of}
 use Rattle.j_names.specs.Locales.{bytes_in, is_text}
 use Rattle.j_names.specs.Names.{Scopes, then_in, target_of, put}
 use Rattle.j_names.specs.declared.target.Target.{Target}
-use Rattle.j_noun.specs.declared.ranks.Rank.TheVariants.{Number as RankNumber}
+use Rattle.j_numbers.specs.Numbers.{parts}
 use Rattle.j_rank.specs.Cells.{cell}
-use Rattle.j_rank.specs.Plans.{Planned, monad_plan}
-use Rattle.j_verbs.specs.State.{Run, pure, fail, or_fault, then_do, ◌>>=◌, Unit0}
+use Rattle.j_verbs.specs.State.{Run, pure, or_fault, then_do, ◌>>=◌, Unit0}
 use Rattle.j_eval.specs.Names.{set_name, with_names}
-
--- the parts of a text between blanks
-abbrev pub text_parts : List ℕ → List (List ℕ)
-text_parts text = filter (λ part. not (length part == 0)) (slice_split is_blank text)
 
 -- the names that parts are, where each is one
 abbrev pub names_of : List (List ℕ) → Option (List NameParts)
@@ -37,21 +28,15 @@ some_names (Some (n ∷ ns)) = Ok (n ∷ ns)
 
 -- the names of a character atom or list
 abbrev pub text_names : Array → Result (List NameParts) Fault
-text_names y = cond (is_text y.kind y.shape) (some_names (names_of (text_parts (bytes_in y.atoms)))) (Err Domain)
+text_names y = cond (is_text y.kind y.shape) (some_names (names_of (parts (bytes_in y.atoms)))) (Err Domain)
 
 -- a box atom is opened
-abbrev pub value_of_item : Kind → List ℕ → Array → Array
-value_of_item Boxed [] y = opened (atom_at y.atoms 0)
-value_of_item Boxed (n ∷ s) y = y
-value_of_item Number s y = y
-value_of_item Character s y = y
+abbrev pub opened_at : List ℕ → Array → Array
+opened_at [] y = opened (atom_at y.atoms 0)
+opened_at (n ∷ s) y = y
 
 abbrev pub opened_item : Array → Array
-opened_item y = value_of_item y.kind y.shape y
-
--- where the items of a noun stand
-abbrev pub items_plan : List ℕ → Result Planned Fault
-items_plan s = monad_plan (RankNumber (negsuc 0)) s
+opened_item y = opened_at y.shape y
 
 -- what each name is given: an atom goes to all of them, and else each gets its item
 abbrev pub item_for : List ℕ → Array → ℕ → Array

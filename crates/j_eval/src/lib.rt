@@ -25,6 +25,6 @@ pub use j_explicit::{LineFault, prepare};
 pub use machine::Machine;
 pub use outcome::{Halt, Outcome};
 pub use rows::{
-    insertion_rows, modifier_rows, name_rows, parsing_laws, piece_rows, power_rows, run_rows, several_rows, table_rows,
-    under_rows, worked_rows,
+    insertion_rows, modifier_rows, name_rows, parsing_laws, piece_rows, power_rows, run_rows,
+    several_rows, table_rows, under_rows, worked_rows,
 };

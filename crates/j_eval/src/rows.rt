@@ -1,5 +1,5 @@
 // Sentences worked out by hand.
-ghost use Rattle.std.specs.Prelude.{◌≡◌, ◌++◌, ◌∷◌, [], Ok, Some, None, codes, pos, negsuc};
+ghost use Rattle.std.specs.Prelude.{◌≡◌, ◌++◌, ◌∷◌, [], true, false, Ok, Some, None, codes, pos, negsuc};
 ghost use Rattle.j_definitions.specs.Array.{atom_array, boxed};
 ghost use Rattle.j_definitions.specs.declared.Fault.TheVariants as fault;
 ghost use Rattle.j_definitions.specs.declared.Kind.TheVariants.{Boxed};
@@ -204,8 +204,8 @@ pub fn run_rows()
     ensures blank { on_one (primitive p.Cocurrent) (text (codes "a b")) (after 0 []) ≡ Erred fault.Domain (after 0 []) }
     ensures low { on_one (primitive p.Cocurrent) (text (codes "a_")) (after 0 []) ≡ Erred fault.Domain (after 0 []) }
     ensures no_dyad_either { on_two (atom (pos 1)) (primitive p.Cocurrent) (text (codes "p")) (after 0 []) ≡ Erred fault.Domain (after 0 []) }
-    ensures back { (s : State) → back_in (codes "base") (Gave tt (in_locale (codes "p") s)) ≡ Gave {A = Unit0} tt (in_locale (codes "base") s) }
-    ensures back_after_error { (s : State) → back_in (codes "base") (Erred {A = Unit0} fault.Domain (in_locale (codes "p") s)) ≡ Erred fault.Domain (in_locale (codes "base") s) }
+    ensures back { (s : State) → back_in {A = Unit0} (codes "base") (Gave tt (in_locale (codes "p") s)) ≡ Gave tt (in_locale (codes "base") s) }
+    ensures back_after_error { (s : State) → back_in {A = Unit0} (codes "base") (Erred fault.Domain (in_locale (codes "p") s)) ≡ Erred fault.Domain (in_locale (codes "base") s) }
 {}
 
 /// Laws: assignments to the names of a text, worked out by hand.

@@ -1,10 +1,11 @@
 // The names of a text, and an assignment to several names.
-ghost use Rattle.std.specs.Prelude.{◌≡◌, ◌≢◌, ◌<◌, ◌++◌, ◌∷◌, [], Ok, IfOk, option_map};
+ghost use Rattle.std.specs.Prelude.{◌≡◌, ◌≢◌, ◌<◌, ◌++◌, ◌∷◌, [], length, IfOk, option_map};
 ghost use Rattle.j_definitions.specs.Array.{tally};
 ghost use Rattle.j_entity.specs.View.{entity_of};
-ghost use Rattle.j_eval.specs.Meets.{Kept, Meets, MeetsAs, Onward, IsPartAs};
+ghost use Rattle.j_numbers.specs.Numbers.{parts};
+ghost use Rattle.j_eval.specs.Meets.{Kept, Meets, MeetsAs, NoMemoryOr, Onward, IsPartAs};
 ghost use Rattle.j_eval.specs.Names.{with_names};
-ghost use Rattle.j_eval.specs.Several.{items_plan, names_of, text_parts, text_names, targets_of, item_for, opened_item, assign_items, set_names, set_text};
+ghost use Rattle.j_eval.specs.Several.{names_of, text_names, targets_of, item_for, put_items, assign_items, set_names, set_text};
 ghost use Rattle.j_verbs.specs.State.{or_fault, then_do};
 
 use crate::machine::Machine;
@@ -12,12 +13,11 @@ use crate::outcome::Halt;
 use j_entity::Entity;
 use j_leaves::Name;
 use j_names::{Target, characters};
-use j_noun::{Fault, NoMemory, Noun, Rank, View};
-use j_rank::{Plan, plan_monad};
+use j_noun::{Fault, NoMemory, Noun};
+use j_numbers::first_part;
+use j_rank::cell_of;
+use j_struct_verbs::opened;
 use std::alloc::Global;
-
-// The rank by which each item is a cell.
-const ITEMS: Rank = Rank::Number(-1);
 
 // Names behind others.
 fn push_name(names: &mut Vec<Name>, name: Name) -> Result<(), NoMemory>
@@ -30,18 +30,18 @@ fn push_name(names: &mut Vec<Name>, name: Name) -> Result<(), NoMemory>
 }
 
 // The names between the blanks of a text, where each part is one.
+#[tactic(auto, using(crate::proofs::SeveralNames::all_named, crate::proofs::SeveralNames::one_more, crate::proofs::SeveralNames::no_name, crate::proofs::SeveralNames::none_more))]
 fn names_in(alloc: Global, text: &[u8]) -> Result<Option<Vec<Name>>, NoMemory>
-    ensures { IfOk result (λ o. option_map (λ v. v.items) o ≡ names_of (text_parts text.now)) }
+    ensures { IfOk result (λ o. option_map (λ v. v.items) o ≡ names_of (parts text.now)) }
 {
     let mut names = Vec::new(alloc);
-    for part in text.split(|b| *b == b' ' || *b == b'\t') {
-        if part.is_empty() {
-            continue;
-        }
-        match Name::read(alloc, part)? {
-            Some(name) => push_name(&mut names, name)?,
-            None => return Ok(None),
-        }
+    let mut rest = text;
+    while let Some((part, after)) = first_part(rest) {
+        let Some(name) = Name::read(alloc, part)? else {
+            return Ok(None);
+        };
+        push_name(&mut names, name)?;
+        rest = after;
     }
     Ok(Some(names))
 }
@@ -59,34 +59,28 @@ fn text_names(alloc: Global, y: &Noun) -> Result<Vec<Name>, Halt>
     }
 }
 
-// A box atom is opened.
-fn opened_item(y: Noun) -> Result<Noun, NoMemory>
-    ensures { IfOk result (λ n. n ≡ opened_item y) }
-{
-    if !y.axes().is_empty() {
-        return Ok(y);
-    }
-    match y.view() {
-        View::Boxes([held, ..]) => held.duplicate(),
-        View::Boxes([]) | View::Bits(_) | View::Wholes(_) | View::Bytes(_) => y.duplicate(),
-    }
-}
-
 impl Machine {
-    // What the name at a place is given: an atom goes to all, and else each gets its item.
-    fn item_for(&mut self, items: &Plan, y: &Noun, k: usize) -> Result<Noun, NoMemory>
-        requires plan { items_plan y.now.shape ≡ Ok items.now }
-        requires place { y.now.shape ≢ [] → k < tally y.now.shape }
-        ensures value { IfOk result (λ n. n ≡ item_for y.now.shape y.now k) }
+    // What the name at a place is given: an atom goes to all, and else each gets its item. A box atom is opened.
+    fn item_for(&mut self, y: &Noun, k: usize) -> Result<Noun, Halt>
+        requires { y.now.shape ≢ [] → k < tally y.now.shape }
+        ensures value { NoMemoryOr result (λ n. n ≡ item_for y.now.shape y.now k) }
         ensures kept { Kept self.old self.new }
     {
-        let place = if y.axes().is_empty() { 0 } else { k };
-        opened_item(items.right(&mut self.pool, y, place)?)
+        if y.axes().is_empty() {
+            return Ok(opened(&mut self.pool, y)?);
+        }
+        let item = cell_of(&mut self.pool, y, 1, k)?;
+        if item.axes().is_empty() {
+            Ok(opened(&mut self.pool, &item)?)
+        } else {
+            Ok(item)
+        }
     }
 
     // Where each name is put, of which the leftmost fault decides.
     fn targets(&self, local: bool, names: &[Name]) -> Result<Vec<Target>, Halt>
-        ensures { MeetsAs (λ ts. ts.items) result self.now (or_fault (targets_of local self.now.state.names names.now) self.now.state) }
+        ensures gives { MeetsAs (λ ts. ts.items) result self.now (or_fault (targets_of local self.now.state.names names.now) self.now.state) }
+        ensures long { IfOk result (λ ts. length ts.items ≡ length names.now) }
     {
         let mut targets = Vec::new(self.alloc());
         for name in names {
@@ -98,21 +92,30 @@ impl Machine {
         Ok(targets)
     }
 
+    // Each name is given its item at its target.
+    fn put_items(&mut self, names: &[Name], targets: &[Target], y: &Noun) -> Result<(), Halt>
+        requires targets { length targets.now ≡ length names.now }
+        requires items { y.now.shape ≢ [] → tally y.now.shape ≡ length names.now }
+        ensures gives { NoMemoryOr result (λ _. self.new.state ≡ record self.old.state { names = put_items self.old.state.names names.now targets.now y.now 0 }) }
+        ensures onward { Onward self.old self.new }
+    {
+        for k in 0..names.len() {
+            let item = self.item_for(y, k)?;
+            self.put(&targets[k], names[k].base(), Entity::Noun(item))?;
+        }
+        Ok(())
+    }
+
     // Several names are given the items of a noun, after all is checked.
     fn set_items(&mut self, local: bool, names: &[Name], y: &Noun) -> Result<(), Halt>
         ensures gives { Meets result self.new (then_do (or_fault (assign_items local self.old.state.names names.now y.now) self.old.state) with_names) }
         ensures onward { Onward self.old self.new }
     {
-        let items = plan_monad(ITEMS, y)?;
-        if !y.axes().is_empty() && items.count() != names.len() {
+        if !y.axes().is_empty() && y.tally() != names.len() {
             return Err(Halt::Failed(Fault::Length));
         }
         let targets = self.targets(local, names)?;
-        for k in 0..names.len() {
-            let item = self.item_for(&items, y, k)?;
-            self.put(&targets[k], names[k].base(), Entity::Noun(item))?;
-        }
-        Ok(())
+        self.put_items(names, &targets, y)
     }
 
     // One name is given the whole entity, and several the items of a noun.
