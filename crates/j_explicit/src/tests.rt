@@ -31,6 +31,7 @@ fn reads_lines(rt: HostRuntime) -> Result<(), Fail> {
         40
     );
     assert_eq!(rt; count(alloc, &mut pool, b"sum =: + 1 2")?, 4);
+    assert_eq!(rt; count(alloc, &mut pool, b"f_z_ a__o 1")?, 3);
     Ok(())
 }
 
@@ -45,7 +46,7 @@ fn fails(rt: &impl Abort, alloc: Global, pool: &mut Pool, line: &[u8], fault: Fa
 fn tells_faults(rt: HostRuntime) {
     let alloc = rt.alloc();
     let mut pool = Pool::new(alloc);
-    fails(&rt, alloc, &mut pool, b"f_z_ 1", Fault::Nonce);
+    fails(&rt, alloc, &mut pool, b"%: 1", Fault::Nonce);
     fails(&rt, alloc, &mut pool, b"1x", Fault::IllFormed);
     fails(&rt, alloc, &mut pool, b"+ 1e19", Fault::Overflow);
     fails(&rt, alloc, &mut pool, b"abc.", Fault::Spelling);
