@@ -3,3 +3,4 @@ pub mod Beside
 pub mod Laminated
 pub mod Contents
 pub mod Razed
+pub mod Stitched

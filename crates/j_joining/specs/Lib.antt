@@ -1,3 +1,4 @@
 pub mod Joining
 pub mod Brought
 pub mod JoiningRows
+pub mod Stitching

@@ -8,6 +8,7 @@ ghost use Rattle.j_rank.specs.Rows.{numbers_in, bytes_in, boxes_in};
 ghost use Rattle.j_joining.specs.Brought.{list_of};
 ghost use Rattle.j_joining.specs.JoiningRows.{in_boxes};
 ghost use Rattle.j_joining.specs.Joining.{append, laminate, in_box, content, link, raze};
+ghost use Rattle.j_joining.specs.Stitching.{stitch};
 
 /// Laws: nouns joined by their items, worked out by hand.
 pub fn worked_appends()
@@ -104,4 +105,17 @@ pub fn joining_limits()
     ensures deepest { in_box (in_boxes 63 (numbers_in [] (7 ∷ []))) ≡ Ok (in_boxes 64 (numbers_in [] (7 ∷ []))) }
     ensures too_deep { in_box (in_boxes 64 (numbers_in [] (7 ∷ []))) ≡ Err fault.Limit }
     ensures linked_too_deep { link (in_boxes 64 (numbers_in [] (7 ∷ []))) (boxes_in (3 ∷ 0 ∷ []) []) ≡ Err fault.Limit }
+{}
+
+/// Laws: nouns joined item by item, worked out by hand.
+pub fn worked_stitches()
+    ensures lists { stitch (numbers_in (3 ∷ []) (1 ∷ 2 ∷ 3 ∷ [])) (numbers_in (3 ∷ []) (4 ∷ 5 ∷ 6 ∷ [])) ≡ Ok (numbers_in (3 ∷ 2 ∷ []) (1 ∷ 4 ∷ 2 ∷ 5 ∷ 3 ∷ 6 ∷ [])) }
+    ensures two_atoms { stitch (numbers_in [] (5 ∷ [])) (numbers_in [] (7 ∷ [])) ≡ Ok (numbers_in (2 ∷ []) (5 ∷ 7 ∷ [])) }
+    ensures atom_before_each { stitch (bytes_in [] (65 ∷ [])) (bytes_in (2 ∷ []) (66 ∷ 67 ∷ [])) ≡ Ok (bytes_in (2 ∷ 2 ∷ []) (65 ∷ 66 ∷ 65 ∷ 67 ∷ [])) }
+    ensures list_and_table { stitch (numbers_in (2 ∷ []) (7 ∷ 8 ∷ [])) (numbers_in (2 ∷ 2 ∷ []) (1 ∷ 2 ∷ 3 ∷ 4 ∷ [])) ≡ Ok (numbers_in (2 ∷ 3 ∷ []) (7 ∷ 1 ∷ 2 ∷ 8 ∷ 3 ∷ 4 ∷ [])) }
+    ensures tables { stitch (numbers_in (2 ∷ 2 ∷ []) (1 ∷ 2 ∷ 3 ∷ 4 ∷ [])) (numbers_in (2 ∷ 1 ∷ []) (5 ∷ 6 ∷ [])) ≡ Ok (numbers_in (2 ∷ 3 ∷ []) (1 ∷ 2 ∷ 5 ∷ 3 ∷ 4 ∷ 6 ∷ [])) }
+    ensures other_tally { stitch (numbers_in (2 ∷ []) (1 ∷ 2 ∷ [])) (numbers_in (3 ∷ []) (1 ∷ 2 ∷ 3 ∷ [])) ≡ Err fault.Length }
+    ensures two_kinds { stitch (numbers_in (2 ∷ []) (1 ∷ 2 ∷ [])) (bytes_in (2 ∷ []) (65 ∷ 66 ∷ [])) ≡ Err fault.Domain }
+    ensures no_items { stitch (numbers_in (0 ∷ 3 ∷ []) []) (numbers_in (0 ∷ []) []) ≡ Ok (numbers_in (0 ∷ 4 ∷ []) []) }
+    ensures no_items_of_two_kinds { stitch (bytes_in (0 ∷ []) []) (numbers_in (0 ∷ []) []) ≡ Ok (numbers_in (0 ∷ []) []) }
 {}

@@ -3,7 +3,7 @@
 
 mod laws;
 
-pub use j_joining::{append, boxed, laminate, link, opened, raze};
+pub use j_joining::{append, boxed, laminate, link, opened, raze, stitch};
 pub use j_places::{
     behead, curtail, drop_items, head, itemize, ravel, ravel_items, reverse, rotate, shape_of,
     tail, take, tally_of,

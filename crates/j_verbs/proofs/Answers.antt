@@ -22,9 +22,9 @@ use Rattle.j_verbs.specs.declared.calls.Monad.{Monad}
 use Rattle.j_verbs.specs.declared.calls.Dyad.{Dyad}
 use Rattle.j_verbs.specs.Laws.{IsNounOrNone, AreZero, scalar}
 use Rattle.j_verbs.specs.State.{State, Run, Gave, or_fault}
-use Rattle.j_verbs.specs.Words.{always, by_items, two_cell, done, left_of, scalar_cell, valence, word}
+use Rattle.j_verbs.specs.Words.{always, two_cell, done, left_of, scalar_cell, valence, word}
 use Rattle.j_verbs.specs.declared.table.Valence.{Valence}
-use Rattle.j_verbs.specs.declared.table.Valence.TheVariants.{Scalar, OnOne, OnTwo, ByItems, LeftArgument, RightArgument, Constant, LeftOut, Later, Absent}
+use Rattle.j_verbs.specs.declared.table.Valence.TheVariants.{Scalar, OnOne, OnTwo, LeftArgument, RightArgument, Constant, LeftOut, Later, Absent}
 use Rattle.j_verbs.proofs.Scalars.{dyad_whole, monad_whole}
 
 pub gives_as : (m : Run Array) (q : Result Array Fault) (a : Result Array Refusal) → ((s : State) → m s ≡ or_fault q s) → OrWanting q a → Gives m a
@@ -55,9 +55,6 @@ one_gives m p x y a e h = word_gives (OnOne m) p x y a e (gives_as (done p (OnOn
 
 pub two_gives : (d : Dyad) (p : Primitive) (x : Option Array) (y : Array) (a : Result Array Refusal) → OnTwo d ≡ valence p x → OrWanting (two_cell d x y) a → Gives (word p x y) a
 two_gives d p x y a e h = word_gives (OnTwo d) p x y a e (gives_as (done p (OnTwo d) x y) (two_cell d x y) a (λ s. refl) h)
-
-pub items_give : (d : Dyad) (p : Primitive) (x : Option Array) (y : Array) (a : Result Array Refusal) → ByItems d ≡ valence p x → Gives (by_ranks by_items (λ b c. or_fault (two_cell d b c)) x y) a → Gives (word p x y) a
-items_give d p x y a e h = word_gives (ByItems d) p x y a e h
 
 pub left_gives : (p : Primitive) (x : Option Array) (y a : Array) → LeftArgument ≡ valence p x → a ≡ left_of x y → Gives (word p x y) (Ok a)
 left_gives p x y a e h = word_gives LeftArgument p x y (Ok a) e (λ s. ap (λ (b : Array). Gave b s) (sym h))

@@ -10,4 +10,4 @@ pub mod Served
 pub mod WordForms
 pub mod Pure
 pub mod Corners
-pub mod ItemByItem
+pub mod Stitches

@@ -9,6 +9,7 @@ use Rattle.j_places.specs.AxisPlaces as places
 use Rattle.j_reshaping.specs.Reshaping as reshaping
 use Rattle.j_reshaping.specs.Axes as axes
 use Rattle.j_joining.specs.Joining as joining
+use Rattle.j_joining.specs.Stitching as stitching
 use Rattle.j_indices.specs.Counting as counting
 use Rattle.j_indices.specs.Selecting as selecting
 use Rattle.j_indices.specs.Indexing as indexing
@@ -64,6 +65,7 @@ of_one monad.Format y = display.formatted y
 abbrev pub of_two : Dyad → Array → Array → Result Array Fault
 of_two dyad.Reshape x y = up_to 1 x (reshaping.reshape x y)
 of_two dyad.Append x y = joining.append x y
+of_two dyad.Stitch x y = stitching.stitch x y
 of_two dyad.Laminate x y = joining.laminate x y
 of_two dyad.Rotate x y = up_to 1 x (places.rotate_axes x y)
 of_two dyad.TransposeBy x y = up_to 1 x (axes.transpose_by x y)

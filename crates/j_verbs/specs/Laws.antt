@@ -1,5 +1,5 @@
 -- Laws of the rule of cells.
-use Rattle.std.specs.Prelude.{◌≡◌, pos, Option, Some, None, Result}
+use Rattle.std.specs.Prelude.{◌≡◌, pos, negsuc, Option, Some, None, Result}
 use Rattle.j_definitions.specs.Array.{Array, IsNoun}
 use Rattle.j_definitions.specs.declared.Fault.{Fault}
 use Rattle.j_kernels.specs.Scalars.{monad_of, dyad_of, scalar_monad, scalar_dyad}
@@ -7,9 +7,11 @@ use Rattle.j_kernels.specs.declared.scalar.Scalar.{Scalar}
 use Rattle.j_noun.specs.declared.ranks.Rank.TheVariants as rank
 use Rattle.j_leaves.specs.declared.ranks.Ranks.{Ranks}
 use Rattle.j_entity.specs.Ranks.{same, of}
+use Rattle.j_joining.specs.Stitching.{stitch}
+use Rattle.j_verbs.specs.declared.calls.Dyad.TheVariants.{Append}
 use Rattle.j_verbs.specs.ByRank.{Doing, by_ranks}
 use Rattle.j_verbs.specs.State.{State, Run, or_fault}
-use Rattle.j_verbs.specs.Words.{scalar_cell}
+use Rattle.j_verbs.specs.Words.{scalar_cell, two_cell}
 
 -- there is no left argument, or it is a noun
 abbrev pub IsNounOrNone : Option Array → Type 0
@@ -46,3 +48,11 @@ pub record IsPure (m : Run Array) : Type 0 where
 -- Where what is done on cells is pure, so is what the rule makes of it.
 abbrev pub PureStaysPure : Type 0
 PureStaysPure = (r : Ranks) (h : Option Array → Array → Result Array Fault) (x : Option Array) (y : Array) → IsPure (by_ranks r (λ a b. or_fault (h a b)) x y)
+
+-- the items of two nouns joined, by the ranks by which each item is a cell
+abbrev pub items_appended : Doing
+items_appended = by_ranks (same (rank.Number (negsuc 0))) (λ x y. or_fault (two_cell Append x y))
+
+-- `x ,. y` is `,` on the items of x and y.
+abbrev pub StitchedByItems : Type 0
+StitchedByItems = (x y : Array) (s : State) → items_appended (Some x) y s ≡ or_fault (stitch x y) s

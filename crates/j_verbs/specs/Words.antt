@@ -1,5 +1,5 @@
 -- What the verbs that are one word do on one cell or two. Each valence of each of them stands here by its name.
-use Rattle.std.specs.Prelude.{◌≡◌, ℤ, negsuc, true, Option, Some, None, Result, Ok, Err}
+use Rattle.std.specs.Prelude.{◌≡◌, ℤ, true, Option, Some, None, Result, Ok, Err}
 use Rattle.j_definitions.specs.Array.{Array, Atom, number, atom_array}
 use Rattle.j_definitions.specs.Cells.{atom_at}
 use Rattle.j_definitions.specs.declared.Fault.{Fault}
@@ -12,16 +12,13 @@ use Rattle.j_leaves.specs.declared.primitive.Primitive.{Primitive}
 use Rattle.j_leaves.specs.declared.primitive.Primitive.TheVariants as p
 use Rattle.j_leaves.specs.Spelling.{constant}
 use Rattle.j_verbs.specs.State.{pure, fail, or_fault}
-use Rattle.j_verbs.specs.ByRank.{Doing, by_ranks}
+use Rattle.j_verbs.specs.ByRank.{Doing}
 use Rattle.j_verbs.specs.Calls.{of_one, of_two}
 use Rattle.j_verbs.specs.declared.calls.Monad.TheVariants as monad
 use Rattle.j_verbs.specs.declared.calls.Dyad.{Dyad}
 use Rattle.j_verbs.specs.declared.calls.Dyad.TheVariants as dyad
-use Rattle.j_entity.specs.Ranks.{same}
-use Rattle.j_leaves.specs.declared.ranks.Ranks.{Ranks}
-use Rattle.j_noun.specs.declared.ranks.Rank.TheVariants.{Number}
 use Rattle.j_verbs.specs.declared.table.Valence.{Valence}
-use Rattle.j_verbs.specs.declared.table.Valence.TheVariants.{Scalar, OnOne, OnTwo, ByItems, LeftArgument, RightArgument, Constant, LeftOut, Absent, Later}
+use Rattle.j_verbs.specs.declared.table.Valence.TheVariants.{Scalar, OnOne, OnTwo, LeftArgument, RightArgument, Constant, LeftOut, Absent, Later}
 use Rattle.j_verbs.specs.declared.table.Valences.{Valences}
 
 -- the valence for a monad and for a dyad
@@ -56,7 +53,7 @@ valences p.NotEqual = each (OnOne monad.NubSieve) (Scalar scalar.NotEqual)
 valences p.Nub = each (OnOne monad.Nub) Absent
 valences p.Shape = each (OnOne monad.ShapeOf) (OnTwo dyad.Reshape)
 valences p.Ravel = each (OnOne monad.Ravel) (OnTwo dyad.Append)
-valences p.RavelItems = each (OnOne monad.RavelItems) (ByItems dyad.Append)
+valences p.RavelItems = each (OnOne monad.RavelItems) (OnTwo dyad.Stitch)
 valences p.Itemize = each (OnOne monad.Itemize) (OnTwo dyad.Laminate)
 valences p.Link = each (OnOne monad.Raze) (OnTwo dyad.Link)
 valences p.Words = each (OnOne monad.WordForms) LeftOut
@@ -116,7 +113,6 @@ abbrev pub IsServed : Valence → Option Array → Type 0
 IsServed (Scalar v) x = HasValence v x
 IsServed (OnOne m) x = Unit {0}
 IsServed (OnTwo d) x = Unit {0}
-IsServed (ByItems d) x = Unit {0}
 IsServed LeftArgument x = Unit {0}
 IsServed RightArgument x = Unit {0}
 IsServed Constant x = Unit {0}
@@ -147,10 +143,6 @@ left_of (Some x) y = x
 abbrev pub two_cell : Dyad → Option Array → Array → Result Array Fault
 two_cell d x y = of_two d (left_of x y) y
 
--- the ranks by which each item is a cell
-abbrev pub by_items : Ranks
-by_items = same (Number (negsuc 0))
-
 -- a constant verb's number
 abbrev pub always : Option ℤ → Result Array Fault
 always (Some n) = Ok (atom_array NumberKind (number n))
@@ -161,7 +153,6 @@ abbrev pub done : Primitive → Valence → Doing
 done p (Scalar v) x y = or_fault (scalar_cell v x y)
 done p (OnOne m) x y = or_fault (of_one m y)
 done p (OnTwo d) x y = or_fault (two_cell d x y)
-done p (ByItems d) x y = by_ranks by_items (λ a b. or_fault (two_cell d a b)) x y
 done p LeftArgument x y = pure (left_of x y)
 done p RightArgument x y = pure y
 done p Constant x y = or_fault (always (constant p))

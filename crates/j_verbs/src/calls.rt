@@ -55,6 +55,7 @@ pub enum Monad {
 pub enum Dyad {
     Reshape,
     Append,
+    Stitch,
     Laminate,
     Rotate,
     TransposeBy,
@@ -207,6 +208,7 @@ pub fn of_two(pool: &mut Pool, d: Dyad, x: &Noun, y: &Noun) -> Result<Noun, Refu
     match d {
         Dyad::Reshape => reshape(pool, x, y),
         Dyad::Append => structure::append(pool, x, y),
+        Dyad::Stitch => structure::stitch(pool, x, y),
         Dyad::Laminate => structure::laminate(pool, x, y),
         Dyad::Rotate => rotate(pool, x, y),
         Dyad::TransposeBy => transpose_by(pool, x, y),

@@ -2,7 +2,6 @@
 #![tactic(auto)]
 
 mod calls;
-mod items;
 mod nouns;
 mod pairs;
 mod rows;

@@ -2,15 +2,16 @@
 ghost use Rattle.std.specs.Prelude.{◌≡◌, ◌∷◌, [], codes, Ok, Err};
 ghost use Rattle.j_definitions.specs.declared.Fault.TheVariants as fault;
 ghost use Rattle.j_rank.specs.Rows.{numbers_in, bytes_in, boxes_in};
-ghost use Rattle.j_verbs.specs.Laws.{PureStaysPure, RankZeroIsItself, ScalarsAreWhole};
+ghost use Rattle.j_verbs.specs.Laws.{PureStaysPure, RankZeroIsItself, ScalarsAreWhole, StitchedByItems};
 ghost use Rattle.j_verbs.specs.WordForms.{word_forms};
 
-/// Laws: a scalar verb by its cells is the verb on whole nouns, and what is pure on cells stays pure.
-#[tactic(auto, using(crate::proofs::Pure::pure_stays_pure, crate::proofs::Scalars::scalars_are_whole, crate::proofs::Scalars::rank_zero_is_itself))]
+/// Laws: a scalar verb by its cells is the verb on whole nouns, what is pure on cells stays pure, and `,.` is `,` item by item.
+#[tactic(auto, using(crate::proofs::Pure::pure_stays_pure, crate::proofs::Scalars::scalars_are_whole, crate::proofs::Scalars::rank_zero_is_itself, crate::proofs::Stitches::stitched_by_items))]
 pub fn cell_laws()
     ensures whole { ScalarsAreWhole }
     ensures itself { RankZeroIsItself }
     ensures pure { PureStaysPure }
+    ensures stitched { StitchedByItems }
 {}
 
 /// Laws: the words of characters in boxes, worked out by hand.

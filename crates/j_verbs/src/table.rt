@@ -12,7 +12,6 @@ pub enum Valence {
     Scalar(Scalar),
     OnOne(Monad),
     OnTwo(Dyad),
-    ByItems(Dyad),
     LeftArgument,
     RightArgument,
     Constant,
@@ -61,7 +60,7 @@ pub fn valences_of(p: Primitive) -> Valences
         Primitive::Ravel => each(Valence::OnOne(Monad::Ravel), Valence::OnTwo(Dyad::Append)),
         Primitive::RavelItems => each(
             Valence::OnOne(Monad::RavelItems),
-            Valence::ByItems(Dyad::Append),
+            Valence::OnTwo(Dyad::Stitch),
         ),
         Primitive::Itemize => each(
             Valence::OnOne(Monad::Itemize),

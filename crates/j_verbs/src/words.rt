@@ -9,7 +9,6 @@ ghost use Rattle.j_verbs.specs.Answered.{Gives};
 ghost use Rattle.j_verbs.specs.Words.{always, atom_of, left_of, scalar_cell, two_cell, valence as valence_of, word, HasValence, IsServed};
 
 use crate::calls::{Dyad, of_one, of_two};
-use crate::items::item_by_item;
 use crate::table::{Valence, valences_of};
 use j_kernels as kernels;
 use j_kernels::Scalar;
@@ -91,8 +90,8 @@ fn left_argument(x: Option<&Noun>, y: &Noun) -> Result<Noun, NoMemory>
     }
 }
 
-/// A verb on two nouns, of which y is both where there is no left one.
-pub fn on_two(pool: &mut Pool, d: Dyad, x: Option<&Noun>, y: &Noun) -> Result<Noun, Refusal>
+// A verb on two nouns, of which y is both where there is no left one.
+fn on_two(pool: &mut Pool, d: Dyad, x: Option<&Noun>, y: &Noun) -> Result<Noun, Refusal>
     ensures { OrWanting (two_cell d (option_copied x.entry) y.now) result }
 {
     match x {
@@ -120,7 +119,6 @@ pub fn cell(pool: &mut Pool, p: Primitive, x: Option<&Noun>, y: &Noun) -> Result
         Valence::Scalar(v) => scalar(pool, v, x, y),
         Valence::OnOne(m) => of_one(pool, m, y),
         Valence::OnTwo(d) => on_two(pool, d, x, y),
-        Valence::ByItems(d) => item_by_item(pool, d, x, y),
         Valence::LeftArgument => Ok(left_argument(x, y)?),
         Valence::RightArgument => Ok(y.duplicate()?),
         Valence::Constant => constant(p),

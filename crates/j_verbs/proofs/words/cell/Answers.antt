@@ -1,5 +1,5 @@
 use Rattle.std.specs.Option.{option_copied}
-use Rattle.j_verbs.proofs.Answers.{one_gives, two_gives, items_give, left_gives, right_gives, constant_gives, left_out_gives, later_gives, absent_gives}
+use Rattle.j_verbs.proofs.Answers.{one_gives, two_gives, left_gives, right_gives, constant_gives, left_out_gives, later_gives, absent_gives}
 use Rattle.j_verbs.proofs.words.cell.Goals as goal
 
 pub returns-in-OnOne : goal.returns-in-OnOne
@@ -7,9 +7,6 @@ returns-in-OnOne c = one_gives c.in-OnOne.m c.args.p (option_copied c.args.x) c.
 
 pub returns-in-OnTwo : goal.returns-in-OnTwo
 returns-in-OnTwo c = two_gives c.in-OnTwo.d c.args.p (option_copied c.args.x) c.args.y.now c.on_two.result c.in-OnTwo.ensures.value c.on_two.ensures
-
-pub returns-in-ByItems : goal.returns-in-ByItems
-returns-in-ByItems c = items_give c.in-ByItems.d c.args.p (option_copied c.args.x) c.args.y.now c.item_by_item.result c.in-ByItems.ensures.value c.item_by_item.ensures
 
 pub returns-in_ok-left_argument-in-LeftArgument : goal.returns-in_ok-left_argument-in-LeftArgument
 returns-in_ok-left_argument-in-LeftArgument c = left_gives c.args.p (option_copied c.args.x) c.args.y.now c.in_ok-left_argument-in-LeftArgument.field-0 c.in-LeftArgument.ensures.value c.in_ok-left_argument-in-LeftArgument.ensures

@@ -1,28 +1,21 @@
--- A pure verb on each pair of items, and what is left of the pairs in a loop over them.
-use Rattle.std.proofs.Common.{◌≡◌, ◌<◌, ◌≤◌, ◌+◌, ◌-◌, ℕ, List, [], ◌∷◌, ◌++◌, map, arith, refl, sym, ap, subst, ◌∙◌, append_assoc, append-nil, Option, Result, Ok, Err}
+-- What is left of the pairs in a loop over them, and how a plan decides.
+use Rattle.std.proofs.Common.{◌≡◌, ◌<◌, ◌≤◌, ◌+◌, ◌-◌, ℕ, List, [], ◌∷◌, ◌++◌, map, arith, refl, sym, ap, subst, ◌∙◌, append_assoc, append-nil, Result, Ok, Err}
 use Prim.Native.Nat.{suc}
 use Rattle.std.specs.List.{range_with_len}
 use Rattle.j_definitions.specs.Array.{Array, product}
 use Rattle.j_definitions.specs.Cells.{in_order, with_first}
 use Rattle.j_definitions.specs.declared.Fault.{Fault}
-use Rattle.j_leaves.specs.declared.ranks.Ranks.{Ranks}
 use Rattle.j_noun.specs.Refused.{OrWanting}
 use Rattle.j_noun.specs.declared.refusal.Refusal.{Refusal}
 use Rattle.j_noun.specs.declared.refusal.Refusal.TheVariants as refusal
 use Rattle.j_rank.specs.Assembly.{assemble}
-use Rattle.j_rank.specs.Plans.{Planned}
-use Rattle.j_verbs.specs.Answered.{Gives}
-use Rattle.j_verbs.specs.ByRank.{pair, planned_for, source, by_plan, by_ranks}
-use Rattle.j_verbs.specs.PureCells.{then_pure, on_two_cells, pairs_answer, fills_answer}
-use Rattle.j_verbs.specs.State.{State, or_fault}
-use Rattle.j_verbs.proofs.Answers.{gives_as}
-use Rattle.j_verbs.proofs.Pure.{pairs_are, fills_are}
-use Rattle.j_verbs.proofs.Sources.{none_met, some_met}
+use Rattle.j_rank.specs.Plans.{Planned, dyad_plan}
+use Rattle.j_joining.specs.Stitching.{item, pair_joined, then_assembled, pairs_joined, no_pairs_joined, stitched_by, stitched, stitch}
 
-module _ (h : Option Array → Array → Result Array Fault) (p : Planned) (x : Option Array) (y : Array) where
-  -- what is done with the pair at a place
+module _ (p : Planned) (x y : Array) where
+  -- what the pair at a place gives
   abbrev met : ℕ → Result Array Fault
-  met k = on_two_cells h (pair p x y k)
+  met k = pair_joined p x y k
 
   -- with the results so far
   abbrev behind : List Array → Result (List Array) Fault → Result (List Array) Fault
@@ -64,13 +57,9 @@ module _ (h : Option Array → Array → Result Array Fault) (p : Planned) (x : 
       ∙ ap (λ (done : List Array). behind done (in_order (map met (range_with_len (k + 1) (product p.agreed.frame - (k + 1)))))) (sym d))
       ∙ same
 
-  pulled : (ks : List ℕ) → map (on_two_cells h) (map (pair p x y) ks) ≡ map met ks
-  pulled [] = refl
-  pulled (k ∷ ks) = ap (λ (rs : List (Result Array Fault)). met k ∷ rs) (pulled ks)
-
-  answer_is : (q : Result (List Array) Fault) → q ≡ all → pairs_answer h (source p x y) ≡ then_pure q (assemble p.agreed.frame)
+  answer_is : (q : Result (List Array) Fault) → q ≡ all → pairs_joined p x y ≡ then_assembled p.agreed.frame q
   unfolding all
-  answer_is q e = ap (λ (r : Result (List Array) Fault). then_pure r (assemble p.agreed.frame)) (ap in_order (pulled (range_with_len 0 (product p.agreed.frame))) ∙ sym e)
+  answer_is q e = ap (λ (r : Result (List Array) Fault). then_assembled p.agreed.frame r) (sym e)
 
   err_is : (k : ℕ) (done : List Array) (e : Fault) → k < product p.agreed.frame → met k ≡ Err e → going k done ≡ Err e
   unfolding going
@@ -78,7 +67,7 @@ module _ (h : Option Array → Array → Result Array Fault) (p : Planned) (x : 
       ap (λ (rs : List (Result Array Fault)). behind done (in_order rs)) (rest_more k l)
       ∙ ap (λ (m : Result Array Fault). behind done (in_order (m ∷ map met (range_with_len (k + 1) (product p.agreed.frame - (k + 1)))))) q
 
-  pub faulty : (k : ℕ) (done : List Array) (a : Refusal) → k < product p.agreed.frame → OrWanting {A = Array} (met k) (Err a) → going k done ≡ all → OrWanting {A = Array} (pairs_answer h (source p x y)) (Err a)
+  pub faulty : (k : ℕ) (done : List Array) (a : Refusal) → k < product p.agreed.frame → OrWanting {A = Array} (met k) (Err a) → going k done ≡ all → OrWanting {A = Array} (pairs_joined p x y) (Err a)
   faulty k done (refusal.Fault e) l q same = answer_is (Err e) (sym (err_is k done e l q) ∙ same)
   faulty k done refusal.NoMemory l q same = tt
 
@@ -89,32 +78,19 @@ module _ (h : Option Array → Array → Result Array Fault) (p : Planned) (x : 
       let end : done ++ [] ≡ done = simp append-nil in
       ap (λ (n : ℕ). behind done (in_order (map met (range_with_len k n)))) n ∙ ap (λ (done : List Array). let q : Result (List Array) Fault = Ok done in q) end
 
-  pub finished : (k : ℕ) (frame : List ℕ) (done : List Array) (a : Result Array Refusal) → product p.agreed.frame ≤ k → frame ≡ p.agreed.frame → going k done ≡ all → OrWanting (assemble frame done) a → OrWanting (pairs_answer h (source p x y)) a
+  pub finished : (k : ℕ) (frame : List ℕ) (done : List Array) (a : Result Array Refusal) → product p.agreed.frame ≤ k → frame ≡ p.agreed.frame → going k done ≡ all → OrWanting (assemble frame done) a → OrWanting (pairs_joined p x y) a
   finished k frame done a l f same o =
       subst (λ (r : Result Array Fault). OrWanting r a) (ap (λ (f : List ℕ). assemble f done) f ∙ sym (answer_is (Ok done) (sym (end_is k done l) ∙ same))) o
 
--- the rule of cells of a pure verb, by its plan
-pub unplanned : (h : Option Array → Array → Result Array Fault) (r : Ranks) (x : Option Array) (y : Array) (e : Fault) → planned_for r x y ≡ Err e → Gives (by_ranks r (λ a b. or_fault (h a b)) x y) (Err (refusal.Fault e))
-unfolding by_ranks
-unplanned h r x y e q = λ s. ap (λ p. by_plan p (λ a b. or_fault (h a b)) x y s) q
+-- how a plan decides
+pub unplanned : (x y : Array) (e : Fault) → dyad_plan item item x.shape y.shape ≡ Err e → stitch x y ≡ Err e
+unplanned x y e q = ap (λ (r : Result Planned Fault). stitched r x y) q
 
-none_is : (h : Option Array → Array → Result Array Fault) (r : Ranks) (x : Option Array) (y : Array) (p : Planned) (s : State) → planned_for r x y ≡ Ok p → product p.agreed.frame ≡ 0 → by_ranks r (λ a b. or_fault (h a b)) x y s ≡ or_fault (fills_answer h (source p x y)) s
-unfolding by_ranks
-none_is h r x y p s q e =
-    ap (λ p. by_plan p (λ a b. or_fault (h a b)) x y s) q
-    ∙ none_met (λ a b. or_fault (h a b)) (source p x y) (pair p x y) s (product p.agreed.frame) e
-    ∙ fills_are h (source p x y) s
+pub no_pairs : (x y : Array) (p : Planned) (a : Result Array Refusal) → dyad_plan item item x.shape y.shape ≡ Ok p → product p.agreed.frame ≡ 0 → OrWanting (no_pairs_joined p x y) a → OrWanting (stitch x y) a
+no_pairs x y p a q e o =
+    subst (λ (r : Result Array Fault). OrWanting r a) (sym (ap (λ (r : Result Planned Fault). stitched r x y) q ∙ ap (λ (n : ℕ). stitched_by n p x y) e)) o
 
-pub none_gives : (h : Option Array → Array → Result Array Fault) (r : Ranks) (x : Option Array) (y : Array) (p : Planned) (a : Result Array Refusal) → planned_for r x y ≡ Ok p → product p.agreed.frame ≡ 0 → OrWanting (fills_answer h (source p x y)) a → Gives (by_ranks r (λ a b. or_fault (h a b)) x y) a
-none_gives h r x y p a q e w = gives_as (by_ranks r (λ a b. or_fault (h a b)) x y) (fills_answer h (source p x y)) a (λ s. none_is h r x y p s q e) w
-
-some_is : (h : Option Array → Array → Result Array Fault) (r : Ranks) (x : Option Array) (y : Array) (p : Planned) (s : State) → planned_for r x y ≡ Ok p → 0 < product p.agreed.frame → by_ranks r (λ a b. or_fault (h a b)) x y s ≡ or_fault (pairs_answer h (source p x y)) s
-unfolding by_ranks
-some_is h r x y p s q l =
+pub some_pairs : (x y : Array) (p : Planned) (a : Result Array Refusal) → dyad_plan item item x.shape y.shape ≡ Ok p → 0 < product p.agreed.frame → OrWanting (pairs_joined p x y) a → OrWanting (stitch x y) a
+some_pairs x y p a q l o =
     let e : product p.agreed.frame ≡ suc (product p.agreed.frame - 1) = omega arith in
-    ap (λ p. by_plan p (λ a b. or_fault (h a b)) x y s) q
-    ∙ some_met (λ a b. or_fault (h a b)) (source p x y) (pair p x y) s (product p.agreed.frame) (product p.agreed.frame - 1) e
-    ∙ pairs_are h (source p x y) s
-
-pub some_gives : (h : Option Array → Array → Result Array Fault) (r : Ranks) (x : Option Array) (y : Array) (p : Planned) (a : Result Array Refusal) → planned_for r x y ≡ Ok p → 0 < product p.agreed.frame → OrWanting (pairs_answer h (source p x y)) a → Gives (by_ranks r (λ a b. or_fault (h a b)) x y) a
-some_gives h r x y p a q l w = gives_as (by_ranks r (λ a b. or_fault (h a b)) x y) (pairs_answer h (source p x y)) a (λ s. some_is h r x y p s q l) w
+    subst (λ (r : Result Array Fault). OrWanting r a) (sym (ap (λ (r : Result Planned Fault). stitched r x y) q ∙ ap (λ (n : ℕ). stitched_by n p x y) e)) o
