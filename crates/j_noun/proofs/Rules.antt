@@ -1,8 +1,8 @@
 -- Lemmas that the goals of several functions use.
-use Rattle.std.proofs.Common.{◌≡◌, ◌≤◌, refl, sym, ap, ◌∙◌, Result, Ok, Err, IfOk, IfErr, ℕ, List, length, map, pos, arith}
+use Rattle.std.proofs.Common.{◌≡◌, ◌≤◌, ◌<◌, refl, sym, ap, ◌∙◌, Result, Ok, Err, IfOk, IfErr, ℕ, List, [], ◌∷◌, length, map, pos, arith}
 use Rattle.std.specs.List.{sum_by, All}
-use Rattle.std.proofs.lemmas.List.Elements.{All-map}
-use Rattle.j_definitions.specs.Array.{Array, Atom, number, byte, boxed, atom_weight, greatest_level, IsOfKind}
+use Rattle.std.proofs.lemmas.List.Elements.{All-map, All-nil, All-cons}
+use Rattle.j_definitions.specs.Array.{Array, Atom, number, byte, boxed, atom_weight, greatest_level, product, IsOfKind}
 use Rattle.j_definitions.specs.declared.Kind.TheVariants.{Number, Character, Boxed}
 use Rattle.j_definitions.proofs.Laws.{number-IsNoun, byte-IsNoun, boxes_weight_more, boxes_level_more, unit_weights, no_level, length_le-weight}
 use Rattle.std.proofs.lemmas.List.{length-map}
@@ -16,8 +16,6 @@ use Rattle.j_noun.specs.declared.refusal.Refusal.TheVariants.{NoMemory, Fault as
 use Rattle.j_noun.specs.Refused.{IsRefusedBeyond, OrWanting}
 use Rattle.j_noun.specs.declared.noun.Atoms.{Atoms}
 use Rattle.j_noun.specs.declared.noun.Atoms.TheVariants.{Wholes, Bits, Bytes, Boxes}
-
-pub ruleset atom_rules = (number-IsNoun, byte-IsNoun)
 
 pub numbers_weight : (xs : List _) → sum_by atom_weight (map number xs) ≡ length xs
 numbers_weight xs = unit_weights number (λ _. refl) xs
@@ -47,6 +45,27 @@ kept-IsOfKind (Wholes v) = All-map (IsOfKind Number) number v.items (λ _ _ _. t
 kept-IsOfKind (Bits v) = All-map (IsOfKind Number) (λ b. number (pos b)) v.items (λ _ _ _. tt)
 kept-IsOfKind (Bytes v) = All-map (IsOfKind Character) byte v.items (λ _ _ _. tt)
 kept-IsOfKind (Boxes v) = All-map (IsOfKind Boxed) boxed v.items (λ _ _ _. tt)
+
+-- the one axis of a list is as long as it has atoms
+pub only_axis : (s : List ℕ) (n : ℕ) → 1 ≤ length s → length s < 2 → n ≡ product s → n ∷ [] ≡ s
+only_axis [] n h g e = absurd (omega arith)
+only_axis (m ∷ []) n h g e = ap (λ k. k ∷ []) (omega (arith, e))
+only_axis (m ∷ k ∷ s) n h g e = absurd (omega arith)
+
+-- a list of few characters is a noun
+pub text-IsNoun : (t : List ℕ) → length t ≤ 14 → IsNoun (record { kind = Character; shape = length t ∷ []; atoms = map byte t })
+text-IsNoun t h = record {
+  as_many = omega (arith, length-map t byte);
+  of_kind = All-map (IsOfKind Character) byte t (λ _ _ _. tt);
+  within = record {
+    rank = omega arith;
+    axes = All-cons (λ n. n ≤ 4194304) (length t) [] (omega arith) (All-nil (λ n. n ≤ 4194304));
+    light = omega (arith, bytes_weight t);
+    shallow = omega (arith, bytes_level t);
+  };
+}
+
+pub ruleset atom_rules = (number-IsNoun, byte-IsNoun)
 
 pub few_atoms : (a : Array) → IsNoun a → (xs : List Atom) → xs ≡ a.atoms → length xs ≤ 4194304
 few_atoms a noun xs e = omega (arith, noun_few a noun, ap length e)

@@ -1,11 +1,11 @@
 -- The noun that the code keeps.
-use Rattle.std.specs.Prelude.{◌≡◌, ◌≢◌, ℕ, ◌≤◌, ◌<◌, pos, List, [], ◌∷◌, map}
+use Rattle.std.specs.Prelude.{◌≡◌, ◌≢◌, ℕ, ◌≤◌, ◌<◌, pos, List, [], ◌∷◌, length, map}
 use Rattle.std.specs.List.{All, sum_by}
 use Rattle.j_definitions.specs.Array.{Array, Atom, number, byte, boxed, weight, level, atom_weight, greatest_level, IsNoun}
 use Rattle.j_definitions.specs.declared.Kind.{Kind}
 use Rattle.j_definitions.specs.declared.Kind.TheVariants.{Number, Character, Boxed}
 use Rattle.j_noun.specs.declared.noun.Held.{Held}
-use Rattle.j_noun.specs.declared.noun.Held.TheVariants.{Number as HeldNumber, Character as HeldCharacter, Shared}
+use Rattle.j_noun.specs.declared.noun.Held.TheVariants.{Number as HeldNumber, Character as HeldCharacter, Text, Shared}
 use Rattle.j_noun.specs.declared.noun.Block.{Block}
 use Rattle.j_noun.specs.declared.noun.Atoms.{Atoms}
 use Rattle.j_noun.specs.declared.noun.Atoms.TheVariants.{Wholes, Bits, Bytes, Boxes}
@@ -29,6 +29,7 @@ array_kept s a = record { kind = kind_kept a; shape = s; atoms = atoms_kept a }
 abbrev pub array_held : Held → Array
 array_held (HeldNumber n) = record { kind = Number; shape = []; atoms = number n ∷ [] }
 array_held (HeldCharacter b) = record { kind = Character; shape = []; atoms = byte b ∷ [] }
+array_held (Text t) = record { kind = Character; shape = length t ∷ []; atoms = map byte t }
 array_held (Shared rc) = array_kept rc.value.shape rc.value.atoms
 
 -- a weight within its limit, and a level
@@ -61,6 +62,7 @@ pub record IsSoundBlock (b : Block) : Type 0 where
 abbrev pub IsStored : Held → Type 0
 IsStored (HeldNumber n) = Unit {0}
 IsStored (HeldCharacter b) = Unit {0}
+IsStored (Text t) = Unit {0}
 IsStored (Shared rc) = IsSoundBlock rc.value
 
 pub record IsSound (h : Held) : Type 0 where

@@ -9,6 +9,7 @@ mod ranks;
 mod refusal;
 mod rows;
 mod shape;
+mod short;
 mod view;
 
 pub use j_definitions::{Fault, Kind};

@@ -1,5 +1,5 @@
 // A noun and its storage.
-ghost use Rattle.std.specs.Prelude.{◌≡◌, ◌≢◌, ◌≤◌, ◌<◌, ◌==◌, ◌+◌, ◌*◌, [], ◌∷◌, length, map, take, drop, vec_capacity, IfOk, IfErr, IsOk, MatchOption, pos};
+ghost use Rattle.std.specs.Prelude.{◌≡◌, ◌≢◌, ◌≤◌, ◌<◌, ◌==◌, ◌+◌, ◌*◌, [], ◌∷◌, length, map, take, drop, vec_capacity, IfOk, IfErr, IfSome, IsOk, IsSome, MatchOption, pos};
 ghost use Rattle.std.specs.List.{sum_by};
 ghost use Rattle.std.specs.Cmp.Lexicographic.{pointwise};
 ghost use Rattle.j_pool.specs.Asked.{raised};
@@ -15,6 +15,7 @@ use crate::axes::Axes;
 use crate::order::order_runs;
 use crate::refusal::Refusal;
 use crate::shape::Shape;
+use crate::short::ShortText;
 use crate::view::{View, views_match};
 use j_definitions::{Fault, Kind};
 use j_pool::{NoMemory, Pool};
@@ -23,7 +24,7 @@ use std::marker::Model;
 use std::rc::Rc;
 use std::slice;
 
-/// A noun. An atom that isn't boxed is kept inline, and any other noun shares its buffer.
+/// A noun. An atom that isn't boxed and a list of few characters are kept inline, and any other noun shares its buffer.
 #[cycle(noun)]
 #[derive(Drop)]
 pub struct Noun {
@@ -35,6 +36,7 @@ pub struct Noun {
 enum Held {
     Number(i64),
     Character(u8),
+    Text(ShortText),
     Shared(Rc<Block>),
 }
 
@@ -130,6 +132,41 @@ fn single(atoms: &Atoms) -> Option<Noun>
     }
 }
 
+// The list of few characters.
+fn text(bytes: &[u8]) -> Option<Noun>
+    ensures { IfSome result (λ n. n ≡ record { kind = CharacterKind; shape = length bytes.now ∷ []; atoms = map byte bytes.now }) }
+{
+    match ShortText::of(bytes) {
+        Some(text) => Some(Noun {
+            held: Held::Text(text),
+        }),
+        None => None,
+    }
+}
+
+// The list, if it is one of few characters.
+fn short_list(atoms: &Atoms) -> Option<Noun>
+    ensures { IfSome result (λ n. n ≡ array_kept (length (atoms_kept atoms.now) ∷ []) atoms.now) }
+{
+    match atoms {
+        Atoms::Bytes(v) => text(v),
+        Atoms::Wholes(_) | Atoms::Bits(_) | Atoms::Boxes(_) => None,
+    }
+}
+
+// The noun, if it takes no buffer.
+fn inline(axes: &[usize], atoms: &Atoms) -> Option<Noun>
+    requires { length (atoms_kept atoms.now) ≡ product axes.now }
+    ensures value { IfSome result (λ n. n ≡ array_kept axes.now atoms.now) }
+    ensures atom { IsInline (array_kept axes.now atoms.now) → IsSome result }
+{
+    match axes {
+        [] => single(atoms),
+        [_] => short_list(atoms),
+        _ => None,
+    }
+}
+
 impl Model for Noun {
     ghost use Rattle.j_definitions.specs.Array.{Array, level, IsNoun};
     ghost use Rattle.j_definitions.specs.Stored.{array_code};
@@ -183,10 +220,8 @@ impl Noun {
         if level > LEVEL_LIMIT || !shape.is_within() {
             return Err(Refusal::Fault(Fault::Limit));
         }
-        if shape.axes().is_empty() {
-            if let Some(atom) = single(&atoms) {
-                return Ok(atom);
-            }
+        if let Some(noun) = inline(shape.axes(), &atoms) {
+            return Ok(noun);
         }
         let shape = Axes::of(pool.alloc(), &shape)?;
         let block = Block {
@@ -220,7 +255,7 @@ impl Noun {
     {
         match &self.held {
             Held::Number(_) => Kind::Number,
-            Held::Character(_) => Kind::Character,
+            Held::Character(_) | Held::Text(_) => Kind::Character,
             Held::Shared(block) => match &block.atoms {
                 Atoms::Wholes(_) | Atoms::Bits(_) => Kind::Number,
                 Atoms::Bytes(_) => Kind::Character,
@@ -234,6 +269,7 @@ impl Noun {
     {
         match &self.held {
             Held::Number(_) | Held::Character(_) => Shape::new(),
+            Held::Text(text) => Shape::of(text.axes()),
             Held::Shared(block) => Shape::of(block.shape.axes()),
         }
     }
@@ -245,6 +281,7 @@ impl Noun {
     {
         match &self.held {
             Held::Number(_) | Held::Character(_) => &[],
+            Held::Text(text) => text.axes(),
             Held::Shared(block) => block.shape.axes(),
         }
     }
@@ -260,23 +297,26 @@ impl Noun {
     }
 
     /// The number of atoms, with the weights of the nouns in boxes.
+    #[tactic(auto, using(crate::proofs::Rules::kept_rules))]
     pub fn weight(&self) -> usize
         ensures value { result ≡ weight self.now }
         ensures limit { result ≤ 4194304 }
     {
         match &self.held {
             Held::Number(_) | Held::Character(_) => 1,
+            Held::Text(text) => text.len(),
             Held::Shared(block) => block.weight,
         }
     }
 
     /// The box level.
+    #[tactic(auto, using(crate::proofs::Rules::kept_rules))]
     pub fn level(&self) -> usize
         ensures value { result ≡ level self.now }
         ensures limit { result ≤ 64 }
     {
         match &self.held {
-            Held::Number(_) | Held::Character(_) => 0,
+            Held::Number(_) | Held::Character(_) | Held::Text(_) => 0,
             Held::Shared(block) => block.level,
         }
     }
@@ -293,6 +333,7 @@ impl Noun {
         match &self.held {
             Held::Number(n) => View::Wholes(slice::from_ref(n)),
             Held::Character(b) => View::Bytes(slice::from_ref(b)),
+            Held::Text(text) => View::Bytes(text.bytes()),
             Held::Shared(block) => match &block.atoms {
                 Atoms::Wholes(v) => View::Wholes(v),
                 Atoms::Bits(v) => View::Bits(v),
@@ -310,6 +351,9 @@ impl Noun {
         match &self.held {
             Held::Number(n) => Ok(Noun::number(*n)),
             Held::Character(b) => Ok(Noun::character(*b)),
+            Held::Text(text) => Ok(Noun {
+                held: Held::Text(text.copy()),
+            }),
             Held::Shared(block) => match block.clone() {
                 Ok(block) => Ok(Noun {
                     held: Held::Shared(block),
