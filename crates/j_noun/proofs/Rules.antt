@@ -2,7 +2,7 @@
 use Rattle.std.proofs.Common.{◌≡◌, ◌≤◌, ◌<◌, refl, sym, ap, ◌∙◌, Result, Ok, Err, IfOk, IfErr, ℕ, List, [], ◌∷◌, length, map, pos, arith}
 use Rattle.std.specs.List.{sum_by, All}
 use Rattle.std.proofs.lemmas.List.Elements.{All-map, All-nil, All-cons}
-use Rattle.j_definitions.specs.Array.{Array, Atom, number, byte, boxed, atom_weight, greatest_level, product, IsOfKind}
+use Rattle.j_definitions.specs.Array.{Array, Atom, number, byte, boxed, atom_weight, greatest_level, product, atom_array, IsOfKind}
 use Rattle.j_definitions.specs.declared.Kind.TheVariants.{Number, Character, Boxed}
 use Rattle.j_definitions.proofs.Laws.{number-IsNoun, byte-IsNoun, boxes_weight_more, boxes_level_more, unit_weights, no_level, length_le-weight}
 use Rattle.std.proofs.lemmas.List.{length-map}
@@ -64,6 +64,16 @@ text-IsNoun t h = record {
     shallow = omega (arith, bytes_level t);
   };
 }
+
+-- a box alone is a noun
+pub box-IsNoun : (a : Array) → sum_by atom_weight (boxed a ∷ []) ≤ 4194304 → greatest_level (boxed a ∷ []) ≤ 64 → IsNoun (atom_array Boxed (boxed a))
+box-IsNoun a light shallow = record {
+  as_many = refl;
+  of_kind = All-cons (IsOfKind Boxed) (boxed a) [] tt (All-nil (IsOfKind Boxed));
+  within = record { rank = omega arith; axes = All-nil (λ n. n ≤ 4194304); light = light; shallow = shallow };
+}
+
+pub ruleset box_rules = (box-IsNoun)
 
 pub ruleset atom_rules = (number-IsNoun, byte-IsNoun)
 

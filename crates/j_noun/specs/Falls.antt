@@ -6,7 +6,7 @@ use Rattle.j_definitions.specs.Array.{Array, level, greatest_level, boxed}
 use Rattle.j_definitions.proofs.Laws.{row_level-row_of}
 use Rattle.j_noun.specs.Held.{array_held, atoms_kept}
 use Rattle.j_noun.specs.declared.noun.Held.{Held}
-use Rattle.j_noun.specs.declared.noun.Held.TheVariants.{Number, Character, Text, Shared}
+use Rattle.j_noun.specs.declared.noun.Held.TheVariants.{Number, Character, Text, Boxed, Shared}
 use Rattle.j_noun.specs.declared.noun.Atoms.{Atoms}
 use Rattle.j_noun.specs.declared.noun.Atoms.TheVariants.{Wholes, Bits, Bytes, Boxes}
 use Rattle.j_noun.specs.declared.noun.Noun.TheDeep.{deep-Held, deep-Atoms}
@@ -25,4 +25,5 @@ pub deep_le-level : (h : Held) → max (deep-Held h) 0 ≤ level (array_held h)
 deep_le-level (Number n) = omega arith
 deep_le-level (Character b) = omega arith
 deep_le-level (Text t) = omega arith
+deep_le-level (Boxed rc) = omega (arith, row_level-row_of rc.value.noun.atoms)
 deep_le-level (Shared rc) = omega (arith, deep_le-kept rc.value.atoms)

@@ -5,7 +5,7 @@ use Rattle.j_definitions.specs.Array.{Array, Atom, number, byte, boxed, weight, 
 use Rattle.j_definitions.specs.declared.Kind.{Kind}
 use Rattle.j_definitions.specs.declared.Kind.TheVariants.{Number, Character, Boxed}
 use Rattle.j_noun.specs.declared.noun.Held.{Held}
-use Rattle.j_noun.specs.declared.noun.Held.TheVariants.{Number as HeldNumber, Character as HeldCharacter, Text, Shared}
+use Rattle.j_noun.specs.declared.noun.Held.TheVariants.{Number as HeldNumber, Character as HeldCharacter, Boxed as HeldBoxed, Text, Shared}
 use Rattle.j_noun.specs.declared.noun.Block.{Block}
 use Rattle.j_noun.specs.declared.noun.Atoms.{Atoms}
 use Rattle.j_noun.specs.declared.noun.Atoms.TheVariants.{Wholes, Bits, Bytes, Boxes}
@@ -30,6 +30,7 @@ abbrev pub array_held : Held → Array
 array_held (HeldNumber n) = record { kind = Number; shape = []; atoms = number n ∷ [] }
 array_held (HeldCharacter b) = record { kind = Character; shape = []; atoms = byte b ∷ [] }
 array_held (Text t) = record { kind = Character; shape = length t ∷ []; atoms = map byte t }
+array_held (HeldBoxed rc) = record { kind = Boxed; shape = []; atoms = boxed rc.value.noun ∷ [] }
 array_held (Shared rc) = array_kept rc.value.shape rc.value.atoms
 
 -- a weight within its limit, and a level
@@ -63,6 +64,7 @@ abbrev pub IsStored : Held → Type 0
 IsStored (HeldNumber n) = Unit {0}
 IsStored (HeldCharacter b) = Unit {0}
 IsStored (Text t) = Unit {0}
+IsStored (HeldBoxed rc) = IsMeasured (boxed rc.value.noun ∷ []) rc.value.weight rc.value.level
 IsStored (Shared rc) = IsSoundBlock rc.value
 
 pub record IsSound (h : Held) : Type 0 where

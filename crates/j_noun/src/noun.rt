@@ -24,7 +24,7 @@ use std::marker::Model;
 use std::rc::Rc;
 use std::slice;
 
-/// A noun. An atom that isn't boxed and a list of few characters are kept inline, and any other noun shares its buffer.
+/// A noun. An atom that isn't boxed and a list of few characters are kept inline, a box alone shares what is in it, and any other noun shares its buffer.
 #[cycle(noun)]
 #[derive(Drop)]
 pub struct Noun {
@@ -37,7 +37,17 @@ enum Held {
     Number(i64),
     Character(u8),
     Text(ShortText),
+    Boxed(Rc<Content>),
     Shared(Rc<Block>),
+}
+
+// What is in a box, with the weight and the level of the box.
+#[cycle(noun)]
+#[derive(Drop)]
+struct Content {
+    noun: Noun,
+    weight: usize,
+    level: usize,
 }
 
 // The weight and the level are kept beside the atoms.
@@ -167,6 +177,21 @@ fn inline(axes: &[usize], atoms: &Atoms) -> Option<Noun>
     }
 }
 
+// What is in the box, if there is one alone, or the atoms again.
+fn only_box(axes: &[usize], atoms: Atoms) -> Result<Noun, Atoms>
+    requires { length (atoms_kept atoms) ≡ product axes.now }
+    ensures ok { IfOk result (λ n. atom_array BoxedKind (boxed n) ≡ array_kept axes.now atoms) }
+    ensures err { IfErr result (λ a. a ≡ atoms) }
+{
+    match atoms {
+        Atoms::Boxes(mut v) if axes.is_empty() => match v.pop() {
+            Some(noun) => Ok(noun),
+            None => unreachable!(),
+        },
+        other => Err(other),
+    }
+}
+
 impl Model for Noun {
     ghost use Rattle.j_definitions.specs.Array.{Array, level, IsNoun};
     ghost use Rattle.j_definitions.specs.Stored.{array_code};
@@ -207,6 +232,49 @@ impl Noun {
         }
     }
 
+    // A box alone.
+    #[tactic(auto, using(crate::proofs::Rules::box_rules))]
+    fn boxed(pool: &Pool, content: Content) -> Result<Noun, NoMemory>
+        requires measured { IsMeasured (boxed content.noun ∷ []) content.weight content.level }
+        requires level { content.level ≤ 64 }
+        ensures { IfOk result (λ n. n ≡ atom_array BoxedKind (boxed content.noun)) }
+    {
+        match Rc::new(pool.alloc(), content) {
+            Ok(content) => Ok(Noun {
+                held: Held::Boxed(content),
+            }),
+            Err(_) => Err(NoMemory),
+        }
+    }
+
+    // The noun of a shape and a buffer.
+    fn shared(
+        pool: &Pool,
+        shape: &Shape,
+        atoms: Atoms,
+        sizes: (usize, usize),
+    ) -> Result<Noun, NoMemory>
+        requires as_many { length (atoms_kept atoms) ≡ product shape.now }
+        requires bits { AreBits atoms }
+        requires not_inline { IsInline (array_kept shape.now atoms) → ⊥ }
+        requires measured { IsMeasured (atoms_kept atoms) sizes.0 sizes.1 }
+        requires within { IsWithin shape.now (atoms_kept atoms) }
+        ensures { IfOk result (λ n. n ≡ array_kept shape.now atoms) }
+    {
+        let block = Block {
+            shape: Axes::of(pool.alloc(), shape)?,
+            atoms,
+            weight: sizes.0,
+            level: sizes.1,
+        };
+        match Rc::new(pool.alloc(), block) {
+            Ok(block) => Ok(Noun {
+                held: Held::Shared(block),
+            }),
+            Err(_) => Err(NoMemory),
+        }
+    }
+
     // The noun of a shape and its atoms, as its limits are met or passed.
     fn made(pool: &Pool, shape: Shape, atoms: Atoms) -> Result<Noun, Refusal>
         requires as_many { length (atoms_kept atoms) ≡ product shape }
@@ -214,27 +282,25 @@ impl Noun {
         ensures ok { IfOk result (λ n. (n ≡ array_kept shape atoms) × IsWithin shape (atoms_kept atoms)) }
         ensures err { IfErr result (IsRefusedBeyond (IsWithin shape (atoms_kept atoms))) }
     {
-        let Some((weight, level)) = measured(&atoms) else {
+        let Some(sizes) = measured(&atoms) else {
             return Err(Refusal::Fault(Fault::Limit));
         };
-        if level > LEVEL_LIMIT || !shape.is_within() {
+        if sizes.1 > LEVEL_LIMIT || !shape.is_within() {
             return Err(Refusal::Fault(Fault::Limit));
         }
         if let Some(noun) = inline(shape.axes(), &atoms) {
             return Ok(noun);
         }
-        let shape = Axes::of(pool.alloc(), &shape)?;
-        let block = Block {
-            shape,
-            atoms,
-            weight,
-            level,
-        };
-        match Rc::new(pool.alloc(), block) {
-            Ok(block) => Ok(Noun {
-                held: Held::Shared(block),
-            }),
-            Err(_) => Err(Refusal::NoMemory),
+        match only_box(shape.axes(), atoms) {
+            Ok(noun) => {
+                let content = Content {
+                    noun,
+                    weight: sizes.0,
+                    level: sizes.1,
+                };
+                Ok(Noun::boxed(pool, content)?)
+            }
+            Err(atoms) => Ok(Noun::shared(pool, &shape, atoms, sizes)?),
         }
     }
 
@@ -261,6 +327,7 @@ impl Noun {
                 Atoms::Bytes(_) => Kind::Character,
                 Atoms::Boxes(_) => Kind::Boxed,
             },
+            Held::Boxed(_) => Kind::Boxed,
         }
     }
 
@@ -268,7 +335,7 @@ impl Noun {
         ensures { result ≡ self.now.shape }
     {
         match &self.held {
-            Held::Number(_) | Held::Character(_) => Shape::new(),
+            Held::Number(_) | Held::Character(_) | Held::Boxed(_) => Shape::new(),
             Held::Text(text) => Shape::of(text.axes()),
             Held::Shared(block) => Shape::of(block.shape.axes()),
         }
@@ -280,7 +347,7 @@ impl Noun {
         ensures rank { length self.now.shape ≤ 32 }
     {
         match &self.held {
-            Held::Number(_) | Held::Character(_) => &[],
+            Held::Number(_) | Held::Character(_) | Held::Boxed(_) => &[],
             Held::Text(text) => text.axes(),
             Held::Shared(block) => block.shape.axes(),
         }
@@ -305,6 +372,7 @@ impl Noun {
         match &self.held {
             Held::Number(_) | Held::Character(_) => 1,
             Held::Text(text) => text.len(),
+            Held::Boxed(content) => content.weight,
             Held::Shared(block) => block.weight,
         }
     }
@@ -317,6 +385,7 @@ impl Noun {
     {
         match &self.held {
             Held::Number(_) | Held::Character(_) | Held::Text(_) => 0,
+            Held::Boxed(content) => content.level,
             Held::Shared(block) => block.level,
         }
     }
@@ -334,6 +403,7 @@ impl Noun {
             Held::Number(n) => View::Wholes(slice::from_ref(n)),
             Held::Character(b) => View::Bytes(slice::from_ref(b)),
             Held::Text(text) => View::Bytes(text.bytes()),
+            Held::Boxed(content) => View::Boxes(slice::from_ref(&content.noun)),
             Held::Shared(block) => match &block.atoms {
                 Atoms::Wholes(v) => View::Wholes(v),
                 Atoms::Bits(v) => View::Bits(v),
@@ -354,6 +424,12 @@ impl Noun {
             Held::Text(text) => Ok(Noun {
                 held: Held::Text(text.copy()),
             }),
+            Held::Boxed(content) => match content.clone() {
+                Ok(content) => Ok(Noun {
+                    held: Held::Boxed(content),
+                }),
+                Err(_) => Err(NoMemory),
+            },
             Held::Shared(block) => match block.clone() {
                 Ok(block) => Ok(Noun {
                     held: Held::Shared(block),
