@@ -15,8 +15,6 @@ mod measure;
 mod paint;
 mod rows;
 mod sizes;
-#[cfg(test)]
-mod tests;
 
 pub use box_rows::{
     rows_of_box_cubes, rows_of_box_lists, rows_of_box_tables, rows_of_boxes, rows_of_contents,

@@ -15,6 +15,3 @@ pub use j_noun::{Rank, RankList, RankPart};
 pub use ranks::one_more;
 pub use rows::{height_rows, modifier_rank_rows, rank_rows, sentence_rows};
 pub use tree::{OperatorTree, Tree};
-
-#[cfg(test)]
-mod tests;

@@ -12,6 +12,3 @@ pub use fault::LineFault;
 pub use j_entity::{Entity, Item, Prepared};
 pub use reading::prepare;
 pub use rows::{spelling_laws, text_laws, worked_rows};
-
-#[cfg(test)]
-mod tests;

@@ -14,6 +14,3 @@ pub use name::{Name, Place, Text};
 pub use primitive::Primitive;
 pub use ranks::Ranks;
 pub use rows::{name_laws, vocabulary_laws, worked_rows};
-
-#[cfg(test)]
-mod tests;

@@ -10,6 +10,3 @@ pub use locales::{characters, locale_boxed, locale_given, locale_text};
 pub use names::Names;
 pub use rows::{assignment_rows, begun_rows, level_rows, locative_rows, name_laws, simple_rows};
 pub use target::Target;
-
-#[cfg(test)]
-mod tests;

@@ -20,6 +20,3 @@ pub use refusal::Refusal;
 pub use rows::{limit_rows, match_rows, measure_rows};
 pub use shape::Shape;
 pub use view::View;
-
-#[cfg(test)]
-mod tests;

@@ -13,8 +13,6 @@ mod rows;
 mod sizes;
 mod stored;
 mod tables;
-#[cfg(test)]
-mod tests;
 mod whole;
 
 pub use atoms::{atom_of, atoms_of_part, box_of, empty_list, fills};

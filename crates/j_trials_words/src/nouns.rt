@@ -159,7 +159,7 @@ fn bits(rt: HostRuntime) -> Result<(), Fail> {
     check_bits(&rt, alloc, &[1, 2, 1, 2], &[1, 0, 0, 1], b"1 0\n\n0 1\n")
 }
 
-// A noun of characters shows them, and matches one that is made again.
+// A noun of characters shows them, and matches one that is made again, as its copy does.
 fn check_characters(
     rt: &impl Abort,
     alloc: Global,
@@ -175,6 +175,11 @@ fn check_characters(
     assert_eq!(rt; noun.axes(), axes);
     assert!(rt; matches!(noun.view(), View::Bytes(shown) if shown == bytes));
     assert!(rt; noun.matches(&again));
+    let copy = noun.duplicate().ok().ok_or("no copy")?;
+    assert_eq!(rt; copy.axes(), axes);
+    assert_eq!(rt; copy.weight(), bytes.len());
+    assert!(rt; matches!(copy.view(), View::Bytes(shown) if shown == bytes));
+    assert!(rt; copy.matches(&noun));
     check_rows(rt, alloc, noun, rows);
     Ok(())
 }
@@ -230,4 +235,17 @@ fn boxed(rt: HostRuntime) -> Result<(), Fail> {
     check_boxes(&rt, alloc, &[2, 3], 6, b"abcdef")?;
     check_boxes(&rt, alloc, &[2, 0, 3], 0, b"")?;
     check_boxes(&rt, alloc, &[1, 2, 1, 2], 4, b"abcd")
+}
+
+#[test]
+fn boxed_lists(rt: HostRuntime) -> Result<(), Fail> {
+    let alloc = rt.alloc();
+    let mut pool = Pool::new(alloc);
+    let bits = noun_of(&mut pool, &[3], Atoms::Bits(vec![in alloc; 1, 0, 1]?))?;
+    let held = vec![in alloc; bits, Noun::character(b'a')]?;
+    let noun = noun_of(&mut pool, &[2], Atoms::Boxes(held))?;
+    assert_eq!(rt; noun.tally(), 2);
+    assert_eq!(rt; noun.weight(), 6);
+    assert_eq!(rt; noun.level(), 1);
+    Ok(())
 }

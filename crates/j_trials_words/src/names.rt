@@ -1,6 +1,7 @@
-use crate::Names;
+// Names keep what they were given, in the definitions that run and in the locales.
 use j_entity::Entity;
 use j_leaves::{Name, Text};
+use j_names::Names;
 use j_noun::{Noun, View};
 use std::alloc::Global;
 use std::test::Fail;

@@ -1,9 +1,9 @@
+// Lines have as many words in their sentences.
 ghost use Rattle.std.specs.Prelude.{◌≤◌, length};
 
-use crate::{LineFault, prepare};
-use j_noun::{Fault, Pool};
+use j_explicit::prepare;
+use j_noun::Pool;
 use std::alloc::Global;
-use std::process::Abort;
 use std::test::Fail;
 
 // Reads a line that has no fault.
@@ -33,21 +33,4 @@ fn reads_lines(rt: HostRuntime) -> Result<(), Fail> {
     assert_eq!(rt; count(alloc, &mut pool, b"sum =: + 1 2")?, 4);
     assert_eq!(rt; count(alloc, &mut pool, b"f_z_ a__o 1")?, 3);
     Ok(())
-}
-
-fn fails(rt: &impl Abort, alloc: Global, pool: &mut Pool, line: &[u8], fault: Fault)
-    requires { length line.now ≤ 16777216 }
-{
-    let refused = prepare(alloc, pool, line).err();
-    assert_eq!(rt; refused, Some(LineFault::Fault(fault)));
-}
-
-#[test]
-fn tells_faults(rt: HostRuntime) {
-    let alloc = rt.alloc();
-    let mut pool = Pool::new(alloc);
-    fails(&rt, alloc, &mut pool, b"%: 1", Fault::Nonce);
-    fails(&rt, alloc, &mut pool, b"1x", Fault::IllFormed);
-    fails(&rt, alloc, &mut pool, b"+ 1e19", Fault::Overflow);
-    fails(&rt, alloc, &mut pool, b"abc.", Fault::Spelling);
 }

@@ -1,4 +1,5 @@
-use crate::{Modifier, Name, Primitive, Text};
+// Words, names and texts, spelled, read and copied.
+use j_leaves::{Modifier, Name, Primitive, Text};
 use std::alloc::Global;
 use std::process::Abort;
 use std::test::Fail;

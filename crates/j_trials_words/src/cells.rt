@@ -1,5 +1,6 @@
-use crate::{Collector, plan_dyad, plan_monad};
+// Cells of two nouns and cells of fills, and results that are padded.
 use j_noun::{Atoms, Noun, Pool, Rank, Shape};
+use j_rank::{Collector, plan_dyad, plan_monad};
 use std::test::Fail;
 
 // A list of two numbers.

@@ -1,4 +1,5 @@
-use crate::{
+// Verbs, operators and sentences, made and copied.
+use j_entity::{
     Entity, Item, Modifier, Name, Operand, Operator, OperatorParts, Parts, Prepared, Primitive,
     Rank, Verb,
 };
