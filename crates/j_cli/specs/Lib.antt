@@ -3,4 +3,3 @@ pub mod Run
 pub mod Answer
 pub mod Halts
 pub mod Top
-pub mod Rows

@@ -6,9 +6,7 @@ mod halt;
 mod lines;
 mod reading;
 mod report;
-mod rows;
 mod running;
 mod writing;
 
 pub use command::run_command;
-pub use rows::{report_rows, spent_rows, worked_rows};

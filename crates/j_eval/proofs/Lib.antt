@@ -13,4 +13,6 @@ pub mod Identities
 pub mod Repeats
 pub mod Obverses
 pub mod Taken
+pub mod Boxes
+pub mod Contents
 pub mod Forms

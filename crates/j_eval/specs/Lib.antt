@@ -17,9 +17,9 @@ pub mod Modifiers
 pub mod Applying
 pub mod EachCell
 pub mod Sources
+pub mod Boxing
 pub mod Meaning
 pub mod Meets
 pub mod Machine
 pub mod Coded
-pub mod Rows
 pub mod Laws

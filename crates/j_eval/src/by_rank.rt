@@ -10,6 +10,7 @@ ghost use Rattle.j_eval.specs.Sources.{HasCells, source_of};
 ghost use Rattle.j_verbs.specs.ByRank.{IsWhole, zero_atom, by_ranks, by_source, on_pairs, on_fills, fill_result};
 ghost use Rattle.j_verbs.specs.State.{Outcome, else_do, or_fault, pure};
 
+use crate::boxing::{are_alone, is_boxing};
 use crate::machine::Machine;
 use crate::outcome::{Halt, or_halt};
 use crate::sources::{CellsFrom, cell_count, collector};
@@ -226,6 +227,9 @@ impl Machine {
         ensures gives { Meets result self.new (on_pairs (on_each (nested room) each.entry) (source_of cells.entry) self.old.state) }
         ensures onward { Onward self.old self.new }
     {
+        if is_boxing(each) && are_alone(cells) {
+            return self.boxes_of(each, cells);
+        }
         let mut results = collector(cells);
         for k in 0..cell_count(cells) {
             let (left, right) = self.cells_at(cells, k)?;

@@ -7,7 +7,7 @@ ghost use Rattle.j_eval.specs.Sources.{HasCells, cells_at, source_of};
 
 use crate::machine::Machine;
 use crate::outcome::Halt;
-use j_noun::Noun;
+use j_noun::{Noun, Shape};
 use j_rank::{Collector, Plan, shape_of};
 
 // The cells that a plan takes of arguments, or the pieces of a noun, each alone: runs of its items, or items that belong together.
@@ -31,15 +31,22 @@ pub(crate) fn cell_count(cells: CellsFrom<'_>) -> usize
     }
 }
 
+// The frame of the cells.
+pub(crate) fn frame_of(cells: CellsFrom<'_>) -> Shape
+    ensures { result ≡ (source_of cells.entry).frame }
+{
+    match cells {
+        CellsFrom::Arguments(plan, _, _) => plan.frame().copy(),
+        CellsFrom::Runs(pieces) => shape_of(&[pieces.count()]),
+        CellsFrom::Groups(pieces) => shape_of(&[pieces.count()]),
+    }
+}
+
 // A collector of what is done on each.
 pub(crate) fn collector(cells: CellsFrom<'_>) -> Collector
     ensures { result ≡ record { frame = (source_of cells.entry).frame; results = [] } }
 {
-    match cells {
-        CellsFrom::Arguments(plan, _, _) => Collector::new(plan.frame().copy()),
-        CellsFrom::Runs(pieces) => Collector::new(shape_of(&[pieces.count()])),
-        CellsFrom::Groups(pieces) => Collector::new(shape_of(&[pieces.count()])),
-    }
+    Collector::new(frame_of(cells))
 }
 
 // What needs memory, apart from the functions that call each other.

@@ -62,6 +62,9 @@ over_pairs-loop-k-preserved t c =
       onward = search rules;
     }
 
+pub over_pairs-returns-then-are_alone-clause-gives : goal.over_pairs-returns-then-are_alone-clause-gives
+over_pairs-returns-then-are_alone-clause-gives t c = c.boxes_of.ensures.gives (nested c.args.room)
+
 pub over_pairs-returns-in_err-r-clause-gives : goal.over_pairs-returns-in_err-r-clause-gives
 over_pairs-returns-in_err-r-clause-gives t c =
     let left = cells_from c.args.cells c.loop-k.k (omega arith) in
