@@ -5,17 +5,15 @@ use std::marker::Model;
 use std::slice;
 
 // As many characters as stand beside the tag of a noun that is no longer for them.
-const FEW: usize = 7;
+const FEW: usize = 14;
 
 // The lengths that such a list can have, to be lent.
-static LENGTHS: [usize; 8] = [0, 1, 2, 3, 4, 5, 6, 7];
+static LENGTHS: [usize; 15] = [0, 1, 2, 3, 4, 5, 6, 7, 8, 9, 10, 11, 12, 13, 14];
 
-// What is aligned keeps the characters at an aligned place of a noun, so that a noun is copied by words.
 #[derive(Drop)]
 pub(crate) struct ShortText {
-    aligned: [usize; 0],
     count: u8,
-    bytes: [u8; 7],
+    bytes: [u8; 14],
 }
 
 impl Model for ShortText {
@@ -25,21 +23,20 @@ impl Model for ShortText {
 
     ghost view = { λ t. take t.count t.bytes };
 
-    ghost invariant = { λ t. t.count ≤ 7 };
+    ghost invariant = { λ t. t.count ≤ 14 };
 }
 
 impl ShortText {
     /// The characters, where they are few.
     pub(crate) fn of(text: &[u8]) -> Option<ShortText>
-        ensures { MatchOption result (7 < length text.now) (λ t. (t ≡ text.now) × (length text.now ≤ 7)) }
+        ensures { MatchOption result (14 < length text.now) (λ t. (t ≡ text.now) × (length text.now ≤ 14)) }
     {
         if text.len() > FEW {
             return None;
         }
-        let mut bytes = [0; 7];
+        let mut bytes = [0; 14];
         bytes[..text.len()].copy_from_slice(text);
         Some(ShortText {
-            aligned: [],
             count: text.len() as u8,
             bytes,
         })
@@ -47,7 +44,7 @@ impl ShortText {
 
     pub(crate) fn bytes(&self) -> &[u8]
         ensures value { result.now ≡ self.now }
-        ensures few { length self.now ≤ 7 }
+        ensures few { length self.now ≤ 14 }
     {
         &self.bytes[..usize::from(self.count)]
     }
@@ -56,7 +53,6 @@ impl ShortText {
         ensures { result ≡ self.now }
     {
         ShortText {
-            aligned: [],
             count: self.count,
             bytes: self.bytes,
         }
@@ -65,7 +61,7 @@ impl ShortText {
     /// How many they are.
     pub(crate) fn len(&self) -> usize
         ensures value { result ≡ length self.now }
-        ensures few { result ≤ 7 }
+        ensures few { result ≤ 14 }
     {
         usize::from(self.count)
     }
