@@ -53,7 +53,7 @@ only_axis (m ∷ []) n h g e = ap (λ k. k ∷ []) (omega (arith, e))
 only_axis (m ∷ k ∷ s) n h g e = absurd (omega arith)
 
 -- a list of few characters is a noun
-pub text-IsNoun : (t : List ℕ) → length t ≤ 14 → IsNoun (record { kind = Character; shape = length t ∷ []; atoms = map byte t })
+pub text-IsNoun : (t : List ℕ) → length t ≤ 7 → IsNoun (record { kind = Character; shape = length t ∷ []; atoms = map byte t })
 text-IsNoun t h = record {
   as_many = omega (arith, length-map t byte);
   of_kind = All-map (IsOfKind Character) byte t (λ _ _ _. tt);

@@ -5,15 +5,17 @@ use std::marker::Model;
 use std::slice;
 
 // As many characters as stand beside the tag of a noun that is no longer for them.
-const FEW: usize = 14;
+const FEW: usize = 7;
 
 // The lengths that such a list can have, to be lent.
-static LENGTHS: [usize; 15] = [0, 1, 2, 3, 4, 5, 6, 7, 8, 9, 10, 11, 12, 13, 14];
+static LENGTHS: [usize; 8] = [0, 1, 2, 3, 4, 5, 6, 7];
 
+// What is aligned keeps the characters at an aligned place of a noun, so that a noun is copied by words.
 #[derive(Drop)]
 pub(crate) struct ShortText {
+    aligned: [usize; 0],
     count: u8,
-    bytes: [u8; 14],
+    bytes: [u8; 7],
 }
 
 impl Model for ShortText {
@@ -23,20 +25,21 @@ impl Model for ShortText {
 
     ghost view = { λ t. take t.count t.bytes };
 
-    ghost invariant = { λ t. t.count ≤ 14 };
+    ghost invariant = { λ t. t.count ≤ 7 };
 }
 
 impl ShortText {
     /// The characters, where they are few.
     pub(crate) fn of(text: &[u8]) -> Option<ShortText>
-        ensures { MatchOption result (14 < length text.now) (λ t. (t ≡ text.now) × (length text.now ≤ 14)) }
+        ensures { MatchOption result (7 < length text.now) (λ t. (t ≡ text.now) × (length text.now ≤ 7)) }
     {
         if text.len() > FEW {
             return None;
         }
-        let mut bytes = [0; 14];
+        let mut bytes = [0; 7];
         bytes[..text.len()].copy_from_slice(text);
         Some(ShortText {
+            aligned: [],
             count: text.len() as u8,
             bytes,
         })
@@ -44,7 +47,7 @@ impl ShortText {
 
     pub(crate) fn bytes(&self) -> &[u8]
         ensures value { result.now ≡ self.now }
-        ensures few { length self.now ≤ 14 }
+        ensures few { length self.now ≤ 7 }
     {
         &self.bytes[..usize::from(self.count)]
     }
@@ -53,6 +56,7 @@ impl ShortText {
         ensures { result ≡ self.now }
     {
         ShortText {
+            aligned: [],
             count: self.count,
             bytes: self.bytes,
         }
@@ -61,7 +65,7 @@ impl ShortText {
     /// How many they are.
     pub(crate) fn len(&self) -> usize
         ensures value { result ≡ length self.now }
-        ensures few { result ≤ 14 }
+        ensures few { result ≤ 7 }
     {
         usize::from(self.count)
     }
