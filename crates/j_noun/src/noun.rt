@@ -142,24 +142,12 @@ fn single(atoms: &Atoms) -> Option<Noun>
     }
 }
 
-// The list of few characters.
-fn text(bytes: &[u8]) -> Option<Noun>
-    ensures { IfSome result (λ n. n ≡ record { kind = CharacterKind; shape = length bytes.now ∷ []; atoms = map byte bytes.now }) }
-{
-    match ShortText::of(bytes) {
-        Some(text) => Some(Noun {
-            held: Held::Text(text),
-        }),
-        None => None,
-    }
-}
-
 // The list, if it is one of few characters.
 fn short_list(atoms: &Atoms) -> Option<Noun>
     ensures { IfSome result (λ n. n ≡ array_kept (length (atoms_kept atoms.now) ∷ []) atoms.now) }
 {
     match atoms {
-        Atoms::Bytes(v) => text(v),
+        Atoms::Bytes(v) => Noun::short_text(v),
         Atoms::Wholes(_) | Atoms::Bits(_) | Atoms::Boxes(_) => None,
     }
 }
@@ -229,6 +217,18 @@ impl Noun {
     {
         Noun {
             held: Held::Character(b),
+        }
+    }
+
+    /// The list of these characters, where it takes no buffer: at most seven do.
+    pub fn short_text(bytes: &[u8]) -> Option<Noun>
+        ensures { IfSome result (λ n. n ≡ record { kind = CharacterKind; shape = length bytes.now ∷ []; atoms = map byte bytes.now }) }
+    {
+        match ShortText::of(bytes) {
+            Some(text) => Some(Noun {
+                held: Held::Text(text),
+            }),
+            None => None,
         }
     }
 
