@@ -194,7 +194,7 @@ impl TotalVerb<u8> for Below {
     ghost of = { dyad_on LessVerb };
 
     fn value(x: i64, y: i64) -> u8 {
-        u8::from(x < y)
+        u8::from(masked::less(x, y))
     }
 }
 
@@ -205,7 +205,7 @@ impl TotalVerb<u8> for Above {
     ghost of = { dyad_on GreaterThanVerb };
 
     fn value(x: i64, y: i64) -> u8 {
-        u8::from(x > y)
+        u8::from(masked::less(y, x))
     }
 }
 
@@ -216,7 +216,7 @@ impl TotalVerb<u8> for AtMost {
     ghost of = { dyad_on LessEqualVerb };
 
     fn value(x: i64, y: i64) -> u8 {
-        u8::from(x <= y)
+        u8::from(!masked::less(y, x))
     }
 }
 
@@ -227,7 +227,7 @@ impl TotalVerb<u8> for AtLeast {
     ghost of = { dyad_on GreaterEqualVerb };
 
     fn value(x: i64, y: i64) -> u8 {
-        u8::from(x >= y)
+        u8::from(!masked::less(x, y))
     }
 }
 

@@ -9,9 +9,6 @@ use crate::stored::Stored;
 use j_noun::NoMemory;
 use std::cmp;
 
-/// How many results a block has.
-const LANES: usize = 64;
-
 /// What `len` pairs from `start` on read of one side, and how many of them in a row share each element.
 fn part<X: Copy>(x: &[X], times: usize, start: usize, len: usize) -> (&[X], usize)
     requires alone { times ≢ 1 → length x.now ≡ 1 }
@@ -90,7 +87,7 @@ pub fn fill_blocks<X: Copy, Y: Copy, Z: Stored, O: Op<X, Y, Z>>(
     ensures results { result ≡ OkValue true → AreResults O.left_atom O.right_atom Z.atom Z.IsKept O.meaning left right x.now y.now out.new.items n }
 {
     while out.len() < n {
-        let end = out.len() + cmp::min(LANES, n - out.len());
+        let end = out.len() + cmp::min(Z::lanes(), n - out.len());
         if !append_block::<X, Y, Z, O>(x, left, y, right, end, out)? {
             return Ok(false);
         }

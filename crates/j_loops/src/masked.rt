@@ -1,5 +1,5 @@
 // Wrapped results with a mask of their signs, so that a loop needs no branch for overflow.
-ghost use Rattle.std.specs.Prelude.{◌≡◌, ◌<◌, ◌^◌, ◌+ℤ◌, ◌-ℤ◌};
+ghost use Rattle.std.specs.Prelude.{◌≡◌, ◌<◌, ◌^◌, ◌+ℤ◌, ◌-ℤ◌, int_lt};
 
 /// The sum, where the top bit of the mask is not set. It is set where the wrapped sum differs in sign from both numbers.
 #[inline]
@@ -21,4 +21,15 @@ pub fn difference(x: i64, y: i64) -> (i64, u64)
     let b = y.cast_unsigned();
     let t = a.wrapping_sub(b);
     (t.cast_signed(), (a ^ b) & (a ^ t))
+}
+
+/// Whether x is less than y: the sign of the wrapped difference, turned where it overflowed. A loop needs no comparison of 64 bits for it, which processors without wide ones take apart.
+#[inline]
+pub fn less(x: i64, y: i64) -> bool
+    ensures { result ≡ int_lt x y }
+{
+    let a = x.cast_unsigned();
+    let b = y.cast_unsigned();
+    let t = a.wrapping_sub(b);
+    (t ^ ((a ^ b) & (a ^ t))) >> 63 == 1
 }

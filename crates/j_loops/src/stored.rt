@@ -15,6 +15,10 @@ pub trait Stored: Copy {
 
     fn zero() -> Self;
 
+    /// How many results a block has: few enough for the nearest cache, and enough that the call for a block costs little.
+    fn lanes() -> usize
+        ensures { 0 < result };
+
     /// An empty buffer.
     fn buffer(pool: &mut Pool, n: usize) -> Result<Vec<Self>, NoMemory>
         ensures { IfOk result (λ v. v.items ≡ []) };
@@ -36,6 +40,10 @@ impl Stored for i64 {
 
     fn zero() -> i64 {
         0
+    }
+
+    fn lanes() -> usize {
+        128
     }
 
     fn buffer(pool: &mut Pool, n: usize) -> Result<Vec<i64>, NoMemory> {
@@ -62,6 +70,10 @@ impl Stored for u8 {
 
     fn zero() -> u8 {
         0
+    }
+
+    fn lanes() -> usize {
+        1024
     }
 
     fn buffer(pool: &mut Pool, n: usize) -> Result<Vec<u8>, NoMemory> {

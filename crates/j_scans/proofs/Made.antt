@@ -1,19 +1,23 @@
 -- Nouns of items that are made.
-use Rattle.std.proofs.Common.{◌≡◌, ◌<◌, ◌≤◌, ◌+◌, ◌-◌, ◌*◌, ℕ, List, [], ◌∷◌, ◌++◌, length, map, drop, get_or, arith, refl, sym, ap, ◌∙◌}
+use Rattle.std.proofs.Common.{◌≡◌, ◌<◌, ◌≤◌, ◌+◌, ◌-◌, ◌*◌, ℕ, List, [], ◌∷◌, ◌++◌, length, map, drop, get_or, arith, refl, sym, ap, ◌∙◌, mul-one}
 use Rattle.std.specs.List.{All, flat_map}
 use Rattle.std.proofs.lemmas.List.{length-append, length-map, get_or-map}
 use Rattle.std.proofs.lemmas.List.FromFn.{length-range_with_len}
 use Rattle.std.proofs.lemmas.List.Elements.{All-head, All-append}
-use Rattle.j_definitions.specs.Array.{Array, Atom, tally, product, IsNoun}
+use Rattle.j_definitions.specs.Array.{Array, Atom, byte, tally, product, IsNoun}
 use Rattle.j_definitions.specs.Items.{item, item_size}
 use Rattle.j_definitions.specs.declared.Kind.{Kind}
+use Rattle.j_definitions.specs.declared.Kind.TheVariants.{Character}
 use Rattle.j_noun.specs.declared.noun.Atoms.{Atoms}
 use Rattle.j_noun.specs.Held.{AreAtoms, array_kept, atoms_kept, kind_kept}
 use Rattle.j_scans.specs.declared.copying.Span.{Span}
 use Rattle.j_scans.specs.Pieced.{items_at, parts_at}
 use Rattle.j_scans.specs.Spans.{places_in, IsSpan}
-use Rattle.j_scans.proofs.Parts.{parts_many}
+use Rattle.j_scans.proofs.Parts.{parts_many, map-parts_at}
 use Rattle.j_scans.proofs.Ranges.{All-range}
+
+abbrev array_of : Kind → List ℕ → List Atom → Array
+array_of k s xs = record { kind = k; shape = s; atoms = xs }
 
 tally_of_axes : (s : List ℕ) → All (λ n. n ≤ 4194304) s → tally s ≤ 4194304
 tally_of_axes [] h = omega arith
@@ -61,6 +65,25 @@ both_inside t a b f g =
 
 pub both_many : (a b : Span) → length (places_in a ++ places_in b) ≡ (a.end - a.start) + (b.end - b.start)
 both_many a b = omega (arith, length-append (places_in a) (places_in b), length-range_with_len a.start (a.end - a.start), length-range_with_len b.start (b.end - b.start))
+
+-- a shape of one axis
+one_axis : (s : List ℕ) → 1 ≤ length s → length s < 2 → s ≡ tally s ∷ []
+one_axis [] a b = absurd (omega arith)
+one_axis (n ∷ []) a b = refl
+one_axis (n ∷ m ∷ s) a b = absurd (omega arith)
+
+-- the characters of a list at some places
+pub short_made : (y : Array) (all bytes : List ℕ) (ks : List ℕ) → IsNoun y → 1 ≤ length y.shape → length y.shape < 2 → Character ≡ y.kind → map byte all ≡ y.atoms → bytes ≡ parts_at 1 all ks → All (λ k. k < tally y.shape) ks →
+    array_of Character (length bytes ∷ []) (map byte bytes) ≡ items_at y ks
+short_made y all bytes ks noun some one kind atoms is inside =
+    let axes : y.shape ≡ tally y.shape ∷ [] = one_axis y.shape some one in
+    let own : item_size y.shape ≡ 1 = ap item_size axes in
+    let many : tally y.shape * 1 ≡ length all = sym (ap product axes) ∙ sym noun.as_many ∙ sym (ap length atoms) ∙ length-map all byte in
+    let count : length bytes ≡ length ks = ap length is ∙ parts_many 1 (tally y.shape) all ks many inside ∙ mul-one (length ks) in
+    let shape : length bytes ∷ [] ≡ length ks ∷ drop 1 y.shape = ap (λ n. n ∷ []) count ∙ ap (λ s. length ks ∷ drop 1 s) (sym axes) in
+    let parts : map byte bytes ≡ flat_map (item y) ks =
+    ap (map byte) is ∙ map-parts_at byte 1 all ks ∙ ap (λ xs. parts_at 1 xs ks) atoms ∙ same_parts y ks 1 inside (λ _. sym own) in
+    ap (λ k. array_of k (length bytes ∷ []) (map byte bytes)) kind ∙ ap (λ s. array_of y.kind s (map byte bytes)) shape ∙ ap (array_of y.kind (length ks ∷ drop 1 y.shape)) parts
 
 -- piece k of those at some lists of places
 pub piece_at : (y : Array) (kss : List (List ℕ)) (k : ℕ) (ks : List ℕ) (d : Array) → k < length (map (items_at y) kss) → get_or kss k [] ≡ ks → get_or (map (items_at y) kss) k d ≡ items_at y ks

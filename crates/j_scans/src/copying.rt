@@ -1,5 +1,5 @@
 // Items from one place up to another, as a noun.
-ghost use Rattle.std.specs.Prelude.{◌≡◌, ◌<◌, ◌≤◌, ◌+◌, ◌*◌, ◌++◌, ◌∷◌, length, drop, IfOk};
+ghost use Rattle.std.specs.Prelude.{◌≡◌, ◌<◌, ◌≤◌, ◌+◌, ◌*◌, ◌++◌, ◌∷◌, length, drop, IfOk, IfSome};
 ghost use Rattle.j_definitions.specs.Array.{tally, IsNoun};
 ghost use Rattle.j_definitions.specs.Items.{item_size};
 ghost use Rattle.j_noun.specs.Held.{AreAtoms};
@@ -122,11 +122,28 @@ fn items_of(pool: &mut Pool, y: &Noun, front: Span, back: Span) -> Result<Noun, 
     }
 }
 
+// The characters of a span of a list, where the piece takes no buffer: no shape is made for it.
+fn short_piece(y: &Noun, span: Span) -> Option<Noun>
+    requires { IsSpan (tally y.now.shape) span }
+    ensures { IfSome result (λ a. a ≡ items_at y.now (places_in span)) }
+{
+    let View::Bytes(all) = y.view() else {
+        return None;
+    };
+    match y.axes() {
+        [_] => Noun::short_text(stretch(all, span, 1)),
+        _ => None,
+    }
+}
+
 /// The items within a span.
 pub fn items_in(pool: &mut Pool, y: &Noun, span: Span) -> Result<Noun, NoMemory>
     requires { IsSpan (tally y.now.shape) span }
     ensures { IfOk result (λ a. a ≡ items_at y.now (places_in span)) }
 {
+    if let Some(piece) = short_piece(y, span) {
+        return Ok(piece);
+    }
     let none = Span {
         start: span.end,
         end: span.end,
