@@ -4,3 +4,4 @@ pub mod Linked
 pub mod Diagonals
 pub mod Marks
 pub mod Lists
+pub mod Texts

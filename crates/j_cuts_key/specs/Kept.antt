@@ -1,10 +1,11 @@
 -- How the code keeps pieces.
-use Rattle.std.specs.Prelude.{◌≡◌, ℕ, ℤ, pos, unsigned_abs, ◌+◌, ◌-◌, ◌<◌, ◌≤◌, Bool, true, List, [], ◌∷◌, length, map, filter}
+use Rattle.std.specs.Prelude.{◌≡◌, ℕ, ℤ, pos, unsigned_abs, ◌+◌, ◌-◌, ◌<◌, ◌≤◌, Bool, true, nat_eq, List, [], ◌∷◌, length, map, filter}
 use Prim.Native.Nat.{zero, suc}
 use Rattle.std.specs.List.{All, range_with_len}
 use Rattle.std.specs.Ordering.{int_eq}
 use lib.ListN.{get_or}
-use Rattle.j_definitions.specs.Array.{Array, tally}
+use Rattle.j_definitions.specs.Array.{Array, byte, tally}
+use Rattle.j_definitions.specs.declared.Kind.TheVariants.{Character}
 use Rattle.j_search.specs.Kept.{lost_places}
 use Rattle.j_scans.specs.Pieced.{Pieced, pieces_at}
 use Rattle.j_cuts_key.specs.declared.lines.Links.{Links}
@@ -65,3 +66,14 @@ abbrev pub IsKept : Lines → ℕ → Type 0
 IsKept Obliques t = Unit {0}
 IsKept (Cuts form frets) t = IsRising 0 t frets.items
 IsKept (Keys k) t = AreKept k t
+
+-- the places of a byte
+abbrev pub byte_places : ℕ → List ℕ → List ℕ
+byte_places b bytes = filter (λ k. nat_eq b (get_or bytes k 0)) (range_with_len 0 (length bytes))
+
+-- a list of some characters
+pub record IsText (y : Array) (bytes : List ℕ) : Type 0 where
+  pub axis : y.shape ≡ length bytes ∷ []
+  pub atoms : map byte bytes ≡ y.atoms
+  pub kind : Character ≡ y.kind
+  pub some : 0 < length bytes

@@ -1,5 +1,5 @@
 // The places of frets.
-ghost use Rattle.std.specs.Prelude.{◌≡◌, ◌<◌, ◌≤◌, ℕ, Bool, true, false, cond, pos, unsigned_abs, map, length, take, filter, replicate, MatchOption, IfOk, Ok as OkValue, Err as ErrValue};
+ghost use Rattle.std.specs.Prelude.{◌≡◌, ◌<◌, ◌≤◌, ℕ, Bool, true, false, cond, pos, unsigned_abs, map, length, take, filter, replicate, MatchOption, IfOk, IfSome, Ok as OkValue, Err as ErrValue};
 ghost use Rattle.j_definitions.specs.declared.Fault.TheVariants.{Domain as DomainFault};
 ghost use lib.ListN.{get_or};
 ghost use Rattle.std.specs.List.{All};
@@ -7,7 +7,7 @@ ghost use Rattle.j_definitions.specs.Array.{number, product, tally};
 ghost use Rattle.j_definitions.specs.Cells.{in_order};
 ghost use Rattle.j_noun.specs.Refused.{OrWantingAs};
 ghost use Rattle.j_cuts_key.specs.Cuts.{frets, fret_place, frets_by, marks_served, marked, mark_in};
-ghost use Rattle.j_cuts_key.specs.Kept.{IsRising};
+ghost use Rattle.j_cuts_key.specs.Kept.{IsRising, IsText, byte_places};
 
 use crate::linking::class_at;
 use j_noun::{Fault, NoMemory, Noun, Pool, Refusal, View};
@@ -25,8 +25,53 @@ fn fret_place(form: CutForm, items: usize) -> usize
     }
 }
 
+// The places of a character.
+fn places_of(pool: &mut Pool, text: &[u8], sought: u8) -> Result<Vec<usize>, NoMemory>
+    ensures { IfOk result (λ v. v.items ≡ byte_places sought text.now) }
+{
+    let mut places = pool.fresh(text.len())?;
+    for k in 0..text.len() {
+        let here = sought == text[k];
+        if here {
+            let Ok(()) = places.push(k) else {
+                return Err(NoMemory);
+            };
+        }
+    }
+    Ok(places)
+}
+
+// The frets of a list of characters: the characters that are the first, or the last.
+fn text_frets(pool: &mut Pool, form: CutForm, text: &[u8]) -> Result<Vec<usize>, NoMemory>
+    requires { 0 < length text.now }
+    ensures { IfOk result (λ v. v.items ≡ byte_places (get_or text.now (fret_place form (length text.now)) 0) text.now) }
+{
+    places_of(pool, text, text[fret_place(form, text.len())])
+}
+
+// The characters of a list that has some.
+fn text_of(y: &Noun) -> Option<&[u8]>
+    ensures { IfSome result (λ text. IsText y.now text.now) }
+{
+    match (y.axes(), y.view()) {
+        ([_], View::Bytes(text)) if !text.is_empty() => Some(text),
+        _ => None,
+    }
+}
+
 /// The places of the items that match the first, or the last.
 pub fn frets(pool: &mut Pool, form: CutForm, y: &Noun) -> Result<Vec<usize>, NoMemory>
+    ensures places { IfOk result (λ v. v.items ≡ frets form y.now) }
+    ensures rising { IfOk result (λ v. IsRising 0 (tally y.now.shape) v.items) }
+{
+    match text_of(y) {
+        Some(text) => text_frets(pool, form, text),
+        None => item_frets(pool, form, y),
+    }
+}
+
+// The places of the items that match the first, or the last, as the items are looked up.
+fn item_frets(pool: &mut Pool, form: CutForm, y: &Noun) -> Result<Vec<usize>, NoMemory>
     ensures places { IfOk result (λ v. v.items ≡ frets form y.now) }
     ensures rising { IfOk result (λ v. IsRising 0 (tally y.now.shape) v.items) }
 {
